@@ -1,0 +1,5 @@
+pub mod Samples
+pub mod Refusals
+pub mod Distances
+pub mod Meaning
+pub mod Windows
