@@ -3,7 +3,7 @@ use mathlib.Core.Bool.{Bool, true, false, not, _&&_, cond}
 use mathlib.Core.List.{List, [], _∷_}
 use Prim.Native.Nat.{ℕ, _+_}
 use lib.Dec.{eqb, leb}
-use lib.IntN.{ℤ, pos, negsuc, natAbs, negℤ, _+ℤ_}
+use lib.IntN.{ℤ, pos, natAbs, negℤ, _+ℤ_}
 use lib.ListN.{length}
 use Rattle.std.specs.declared.option.Option.{Option}
 use Rattle.channel.specs.Refusals.{firstOf}
@@ -13,11 +13,11 @@ use Rattle.channel.specs.Windows.{symbolAt}
 use Rattle.channel.specs.Distances.{square, distanceCost, inNoiseRange}
 use Rattle.channel.specs.Meaning.{Meaning}
 
--- a tap is from -512 to 511
+-- a tap is in its range: from -512 to 511
 abbrev pub tapInRange : ℤ → Bool
-tapInRange tap = between (negsuc 511) (pos 511) tap
+tapInRange tap = between (negℤ (pos 512)) (pos 511) tap
 
--- each tap is
+-- each tap of the list is in its range
 abbrev pub allInRange : List ℤ → Bool
 allInRange [] = true
 allInRange (t ∷ ts) = tapInRange t && allInRange ts
