@@ -57,6 +57,10 @@ fn eight_loud_taps_are_priced() -> Result<(), Fail> {
 fn the_newest_symbol_goes_with_the_first_tap() -> Result<(), Fail> {
     let mut channel = Taps::blank();
     channel.load(&[100, 10, 1], 8)?;
+    check_eq(channel.expected(0), -111)?;
+    check_eq(channel.expected(1), 89)?;
+    check_eq(channel.expected(4), -109)?;
+    check_eq(channel.expected(7), 111)?;
     check_eq(channel.cost(plain(-111), 0), Cost::Eighths(0))?;
     check_eq(channel.cost(plain(89), 1), Cost::Eighths(0))?;
     check_eq(channel.cost(plain(-91), 2), Cost::Eighths(0))?;

@@ -6,7 +6,8 @@ ghost use lib.ListN.{length};
 ghost use Rattle.channel.specs.Meaning.{windows};
 ghost use Rattle.channel.specs.Windows.{symbolAt};
 ghost use Rattle.taps.specs.Rule.{timesSymbol, expected};
-ghost use Rattle.taps.specs.Held.{meaningOf};
+ghost use Rattle.taps.specs.Echo.{Expected-is-the-echo};
+ghost use Rattle.taps.specs.Held.{tapsOf, meaningOf};
 use crate::Taps;
 use channel::Channel;
 use channel::Sample;
@@ -30,10 +31,11 @@ fn symbol_at(window: usize, back: usize) -> usize
     (window >> back) % 2
 }
 
-// The number that a sample has under a window if there is no noise.
-fn expected(taps: &[i16], window: usize) -> i32
+// The sum of each tap times the symbol as many places back.
+fn sum_of_taps(taps: &[i16], window: usize) -> i32
     requires { ⌜ length (now taps) ≤ 8 ⌝ }
-    ensures { λ r. ⌜ r ≡ expected (now (taps .entry)) window ⌝ }
+    ensures value { λ r. ⌜ r ≡ expected (now (taps .entry)) window ⌝ }
+    ensures echo { λ _. ⌜ Expected-is-the-echo ⌝ }
 {
     let mut sum = 0;
     for (i, tap) in taps.iter().enumerate() {
@@ -43,6 +45,14 @@ fn expected(taps: &[i16], window: usize) -> i32
 }
 
 impl Taps {
+    /// The number that a sample has under a window if there is no noise. Of a window past the last, as many lowest digits count as there are taps.
+    pub fn expected(&self, window: usize) -> i32
+        ensures value { λ r. ⌜ r ≡ expected (tapsOf (now (self .entry))) window ⌝ }
+        ensures echo { λ _. ⌜ Expected-is-the-echo ⌝ }
+    {
+        sum_of_taps(self.taps(), window)
+    }
+
     // The number of windows.
     fn windows(&self) -> usize
         ensures { λ r. ⌜ r ≡ windows (meaningOf (now (self .entry))) ⌝ }
@@ -54,8 +64,8 @@ impl Taps {
     fn price(&self, sample: Sample, window: usize) -> u32
         ensures { λ r. ⌜ r ≡ meaningOf (now (self .entry)) .price sample window ⌝ }
     {
-        let expected = expected(self.taps(), window);
-        self.noise.cost(squared_distance(sample.first, expected))
+        self.noise
+            .cost(squared_distance(sample.first, self.expected(window)))
     }
 }
 

@@ -3,7 +3,7 @@ use Prim.Native.Nat.{_*_, _≤_}
 use lib.IntN.{_+ℤ_, natAbs}
 use lib.ListN.{drop}
 use Rattle.taps.specs.Rule.{echo, expected}
-use Rattle.taps.proofs.price.expected.Given as given
+use Rattle.taps.proofs.price.sum_of_taps.Given as given
 
 -- The sum so far with what the taps left add is the whole, and each tap adds little.
 abbrev pub Inv-loop-i : given.InvT-loop-i

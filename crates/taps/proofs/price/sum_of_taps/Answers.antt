@@ -11,7 +11,8 @@ use Rattle.std.proofs.shelf.Lists.{at-drop-more, at-drop-all}
 use Rattle.std.proofs.shelf.Signed.{toZ-ofZ, ints}
 use Rattle.channel.specs.Windows.{symbolAt}
 use Rattle.taps.specs.Rule.{timesSymbol, echo, expected}
-use Rattle.taps.proofs.price.expected.Needs as need
+use Rattle.taps.proofs.Echo.{expected-is-the-echo}
+use Rattle.taps.proofs.price.sum_of_taps.Needs as need
 
 -- One tap more: its share goes from what is left into the sum.
 step : (taps : List ℤ) (i window : ℕ) (sum r whole : ℤ) → i < length taps → i < 8 → SFits w16 (getD taps i (pos 0))
@@ -38,4 +39,4 @@ loop-i-again c =
 pub returns : need.returns
 returns c =
     let none = at-drop-all (λ ts. echo (c .loop-i .i) ts (c .args .window)) (c .args .taps .now) (c .loop-i .i) (c .loop-i-test .left) in
-    omega (arith, ints, none, c .loop-i .inv .1)
+    record { value = omega (arith, ints, none, c .loop-i .inv .1); echo = expected-is-the-echo }
