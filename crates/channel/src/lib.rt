@@ -1,5 +1,6 @@
 //! What a channel is, and what its kinds share: samples, the noise, the refusals of loading.
 #![tactic(auto)]
+
 ghost use Rattle.std.specs.Prelude.{◌≡◌, ℕ};
 ghost use Rattle.channel.specs.Meaning.{Meaning, Lawful, taken, cost_of};
 

@@ -1,5 +1,6 @@
 //! The code kind: two masks that pick symbols, each of whose sums gives a coded bit.
 #![tactic(auto)]
+
 ghost use Rattle.std.specs.Prelude.{◌^◌, ◌<◌, ◌≤◌};
 
 mod load;

@@ -1,5 +1,6 @@
 //! A cost: a whole number of eighths, or barred.
 #![tactic(auto)]
+
 ghost use Rattle.std.specs.Prelude.{◌≡◌, ◌⊎◌, MatchOption};
 ghost use Rattle.cost.specs.Arithmetic.{plus, least, barred, AtMost, Fits32};
 ghost use Rattle.cost.specs.Laws.{LeastIsAMinimum, PlusIsASum};

@@ -1,5 +1,6 @@
 //! Joinings: what the ways through a burst are worth, side by side and one after another.
 #![tactic(auto)]
+
 ghost use Rattle.std.specs.Prelude.{◌≡◌, ◌≤◌};
 ghost use Rattle.cost.specs.declared.Cost.{Cost as Costs};
 ghost use Rattle.cost.specs.declared.Cost.TheVariants.{Barred};

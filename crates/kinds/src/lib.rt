@@ -8,9 +8,9 @@ use channel::Channel;
 use forms::Line;
 use text::{Cause, Kind};
 
-mod code;
-mod table;
-mod taps;
+mod code_kind;
+mod table_kind;
+mod taps_kind;
 
 /// A channel of a kind that a line can spell.
 pub trait Spelled: Channel {

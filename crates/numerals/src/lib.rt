@@ -1,5 +1,6 @@
 //! The numbers of a burst text, read and written in decimal.
 #![tactic(auto)]
+
 mod numeral;
 mod read;
 mod write;

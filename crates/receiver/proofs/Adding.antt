@@ -15,7 +15,7 @@ use Rattle.receiver.specs.Bursts.{Kept, places_of, forward_at, backward_at}
 use Rattle.receiver.specs.Changes.{Added}
 use Rattle.receiver.specs.Sound.{Fits, Sound}
 use Rattle.receiver.specs.Standing.{standing, added}
-use Rattle.receiver.specs.declared.burst.Burst.{Burst}
+use Rattle.receiver.specs.declared.inner.Burst.{Burst}
 use Rattle.receiver.proofs.Places.{places_long, place_before, place_last, zeros, zeros_within, zeros_last, backward_end}
 
 -- the burst with a place more

@@ -21,8 +21,8 @@ use Rattle.receiver.specs.Bursts.{Kept, places_of, backward_at}
 use Rattle.receiver.specs.Changes.{Altered, Shortened}
 use Rattle.receiver.specs.Sound.{Fits, Sound, TellsFull}
 use Rattle.receiver.specs.Standing.{standing, altered, marks_after, full_depth}
-use Rattle.receiver.specs.declared.burst.Burst.{Burst}
-use Rattle.receiver.specs.declared.burst.Marks.{Marks}
+use Rattle.receiver.specs.declared.inner.Burst.{Burst}
+use Rattle.receiver.specs.declared.inner.Marks.{Marks}
 use Rattle.receiver.proofs.Places.{places_long, zeros, zeros_within, zeros_last, backward_end}
 
 -- where R stands after a change at place k

@@ -10,7 +10,7 @@ use Rattle.columns.specs.Worked.{Stepped}
 use Rattle.columns.specs.declared.column.Column.{Column}
 use Rattle.receiver.specs.Bursts.{Sized, places_of, forward_at}
 use Rattle.receiver.specs.Steps.{Climbed}
-use Rattle.receiver.specs.declared.burst.Burst.{Burst}
+use Rattle.receiver.specs.declared.inner.Burst.{Burst}
 use Rattle.receiver.proofs.Places.{place_of}
 
 -- the burst with the next forward column

@@ -16,7 +16,7 @@ use Rattle.receiver.specs.Bursts.{Kept, places_of, forward_at, backward_at}
 use Rattle.receiver.specs.Changes.{Deepened}
 use Rattle.receiver.specs.Sound.{Fits, Sound}
 use Rattle.receiver.specs.Standing.{standing}
-use Rattle.receiver.specs.declared.burst.Burst.{Burst}
+use Rattle.receiver.specs.declared.inner.Burst.{Burst}
 use Rattle.receiver.proofs.Places.{places_long, zeros, zeros_within, zeros_last, backward_end}
 
 -- what the first column is

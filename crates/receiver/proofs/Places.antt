@@ -14,7 +14,7 @@ use Rattle.columns.specs.Cells.{CostsWithin, costs_of}
 use Rattle.columns.proofs.Every.{sixteen_within}
 use Rattle.columns.proofs.Numbers.{within_low, as_eighths}
 use Rattle.receiver.specs.Bursts.{Sized, places_of}
-use Rattle.receiver.specs.declared.burst.Burst.{Burst}
+use Rattle.receiver.specs.declared.inner.Burst.{Burst}
 
 pub places_long : (b : Burst) → Sized b → length (places_of b) ≡ b.count
 places_long b sized = length-take-le b.count b.places (omega (arith, sized.few, sized.places))

@@ -30,7 +30,7 @@ use Rattle.columns.proofs.Sums.{cell_at_lem}
 use Rattle.receiver.specs.Bursts.{Kept, Fresh, places_of, forward_at, backward_at}
 use Rattle.receiver.specs.Readings.{LastState}
 use Rattle.receiver.specs.Sound.{Sound}
-use Rattle.receiver.specs.declared.burst.Burst.{Burst}
+use Rattle.receiver.specs.declared.inner.Burst.{Burst}
 use Rattle.receiver.proofs.Places.{places_long, place_of}
 use Rattle.receiver.proofs.Settling.{kept_bounded}
 

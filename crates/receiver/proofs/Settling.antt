@@ -27,7 +27,7 @@ use Rattle.receiver.specs.Settling.{Bounded, Left, Worked, SettledSound, best_co
 use Rattle.receiver.specs.Sound.{Shaped, Fits, Sound}
 use Rattle.receiver.specs.Standing.{standing, settled}
 use Rattle.receiver.specs.Steps.{SameRest, Climbed, Descended}
-use Rattle.receiver.specs.declared.burst.Burst.{Burst}
+use Rattle.receiver.specs.declared.inner.Burst.{Burst}
 use Rattle.receiver.proofs.Places.{places_long}
 
 -- a receiver's own bounds are below 20,000,000

@@ -12,7 +12,7 @@ use Rattle.recursions.specs.Forward.{cell_at, forward}
 use Rattle.recursions.proofs.Firsts.{first_found, same_true}
 use Rattle.receiver.specs.Bursts.{Sized, places_of}
 use Rattle.receiver.specs.Readings.{LastState, Shows}
-use Rattle.receiver.specs.declared.burst.Burst.{Burst}
+use Rattle.receiver.specs.declared.inner.Burst.{Burst}
 use Rattle.receiver.proofs.Places.{places_long}
 
 module _ (m : Meaning) (b : Burst) (sized : Sized b) (s : ℕ) (last : LastState m b (Some s)) where

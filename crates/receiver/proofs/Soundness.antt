@@ -16,7 +16,7 @@ use Rattle.receiver.specs.Bursts.{Sized, places_of, forward_at, backward_at}
 use Rattle.receiver.specs.Settling.{Left, Worked, SettledSound, best_cost}
 use Rattle.receiver.specs.Sound.{Shaped, Fits, Sound}
 use Rattle.receiver.specs.Standing.{Standing}
-use Rattle.receiver.specs.declared.burst.Burst.{Burst}
+use Rattle.receiver.specs.declared.inner.Burst.{Burst}
 use Rattle.receiver.proofs.Places.{places_long}
 
 module _ (m : Meaning) (b z : Burst) (told : Option ℕ) (sized : Sized b) (left : Left b z) (worked : Worked m b z told) (sound : Sound m b) where

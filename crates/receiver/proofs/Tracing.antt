@@ -14,7 +14,7 @@ use Rattle.columns.proofs.Sums.{cell_at_lem}
 use Rattle.receiver.specs.Bursts.{Kept, Fresh, places_of, forward_at}
 use Rattle.receiver.specs.Readings.{Tracing}
 use Rattle.receiver.specs.Sound.{Sound}
-use Rattle.receiver.specs.declared.burst.Burst.{Burst}
+use Rattle.receiver.specs.declared.inner.Burst.{Burst}
 
 -- a list from a written place on
 pub drop_set : (list : List ℕ) (j a : ℕ) → j < length list → drop j (set list j a) ≡ a ∷ drop (suc j) list

@@ -3,7 +3,7 @@ use Rattle.std.specs.Prelude.{◌≡◌, ℕ, ◌-◌, ◌*◌, ◌≤◌, List,
 use Rattle.burst.specs.declared.place.Place.{Place}
 use Rattle.columns.specs.Cells.{CostsWithin, SurvivorsBelow}
 use Rattle.columns.specs.declared.column.Column.{Column}
-use Rattle.receiver.specs.declared.burst.Burst.{Burst}
+use Rattle.receiver.specs.declared.inner.Burst.{Burst}
 
 -- the places that it has
 abbrev pub places_of : Burst → List Place

@@ -7,7 +7,7 @@ use Rattle.recursions.specs.Forward.{start_cell}
 use Rattle.columns.specs.Cells.{cells_of}
 use Rattle.columns.specs.declared.column.Column.{Column}
 use Rattle.receiver.specs.Standing.{Standing, standing, added, deepened, shortened}
-use Rattle.receiver.specs.declared.burst.Burst.{Burst}
+use Rattle.receiver.specs.declared.inner.Burst.{Burst}
 
 -- a place more: the last backward column is written, no other
 pub record Added (before after : Burst) (place : Place) : Type 0 where

@@ -10,7 +10,7 @@ use Rattle.burst.specs.Own.{TotalIsByOwnWindows}
 use Rattle.recursions.specs.Laws.{BestIsShown, FullDepthRemembers}
 use Rattle.receiver.specs.Bursts.{Fresh, places_of}
 use Rattle.receiver.specs.Sound.{Sound}
-use Rattle.receiver.specs.declared.burst.Burst.{Burst}
+use Rattle.receiver.specs.declared.inner.Burst.{Burst}
 
 -- no state if the best is barred, otherwise the first that has it
 abbrev pub LastState : Meaning → Burst → Option ℕ → Type 0

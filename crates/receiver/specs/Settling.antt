@@ -12,7 +12,7 @@ use Rattle.receiver.specs.Bursts.{places_of, forward_at, backward_at}
 use Rattle.receiver.specs.Sound.{Sound}
 use Rattle.receiver.specs.Standing.{standing, settled}
 use Rattle.receiver.specs.Steps.{SameRest}
-use Rattle.receiver.specs.declared.burst.Burst.{Burst}
+use Rattle.receiver.specs.declared.inner.Burst.{Burst}
 
 -- the cost that a best is: none is barred
 abbrev pub best_cost : Option ℕ → Cost

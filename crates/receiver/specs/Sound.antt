@@ -11,7 +11,7 @@ use Rattle.columns.specs.Cells.{cells_of, costs_of}
 use Rattle.columns.specs.Shapes.{Shapes}
 use Rattle.receiver.specs.Bursts.{places_of, forward_at, backward_at}
 use Rattle.receiver.specs.Standing.{full_depth}
-use Rattle.receiver.specs.declared.burst.Burst.{Burst}
+use Rattle.receiver.specs.declared.inner.Burst.{Burst}
 
 -- the depth is allowed, and the sizes are those of the channel at it
 pub record Shaped (m : Meaning) (b : Burst) : Type 0 where

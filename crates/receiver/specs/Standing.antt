@@ -11,8 +11,8 @@ use Rattle.burst.specs.declared.place.Place.{Place}
 use Rattle.burst.specs.declared.priors.Priors.{Priors}
 use Rattle.recursions.specs.Depths.{depth_allowed, largest_depth}
 use Rattle.receiver.specs.Bursts.{places_of}
-use Rattle.receiver.specs.declared.burst.Burst.{Burst}
-use Rattle.receiver.specs.declared.burst.Marks.{Marks}
+use Rattle.receiver.specs.declared.inner.Burst.{Burst}
+use Rattle.receiver.specs.declared.inner.Marks.{Marks}
 
 pub record Standing : Type 0 where
   pub depth : ℕ

@@ -6,7 +6,7 @@ use Rattle.columns.specs.Cells.{CostsWithin, SurvivorsBelow}
 use Rattle.columns.specs.Shapes.{Shapes}
 use Rattle.columns.specs.Worked.{Stepped, Backstepped}
 use Rattle.receiver.specs.Bursts.{places_of, forward_at, backward_at}
-use Rattle.receiver.specs.declared.burst.Burst.{Burst}
+use Rattle.receiver.specs.declared.inner.Burst.{Burst}
 
 -- all but columns and marks
 pub record SameRest (before after : Burst) : Type 0 where

@@ -8,7 +8,7 @@ ghost use Rattle.receiver.specs.Changes.{Altered, Shortened};
 ghost use Rattle.receiver.specs.Sound.{Fits, Sound, TellsFull};
 ghost use Rattle.receiver.specs.Standing.{standing, marks_after, altered, retaken, reweighed};
 
-use crate::burst::{Burst, Marks};
+use crate::inner::{Burst, Marks};
 use burst::{Place, Priors};
 use channel::Sample;
 

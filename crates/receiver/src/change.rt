@@ -8,7 +8,7 @@ ghost use Rattle.receiver.specs.Changes.{Added, Deepened};
 ghost use Rattle.receiver.specs.Sound.{Fits, Sound};
 ghost use Rattle.receiver.specs.Standing.{standing};
 
-use crate::burst::{Burst, Marks};
+use crate::inner::{Burst, Marks};
 use burst::{Place, Priors};
 use channel::Sample;
 use columns::{Column, Shape};

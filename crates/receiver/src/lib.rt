@@ -1,12 +1,12 @@
 //! The receiver: a burst's places with their columns, worked as far as they are asked for, and read.
 #![tactic(auto)]
 mod alter;
-mod burst;
+mod inner;
 mod change;
 mod read;
 mod receiver;
 mod settle;
 
-pub use burst::{MOST, Marks};
+pub use inner::{MOST, Marks};
 pub use receiver::Receiver;
 pub use settle::Settled;

@@ -13,7 +13,7 @@ ghost use Rattle.receiver.specs.Bursts.{Sized, Kept, Fresh, places_of, forward_a
 ghost use Rattle.receiver.specs.Readings.{LastState, Shows, ShownIsBest};
 ghost use Rattle.receiver.specs.Sound.{Sound};
 
-use crate::burst::Burst;
+use crate::inner::Burst;
 use channel::Channel;
 use columns::{Survivor, first_with, least, meeting};
 use cost::Cost;

@@ -2,7 +2,7 @@
 ghost use Rattle.std.specs.Prelude.{◌≡◌, ◌≤◌, length};
 ghost use Rattle.receiver.specs.Bursts.{ForwardCosts, ForwardSurvivors, BackwardCosts};
 
-use crate::burst::Burst;
+use crate::inner::Burst;
 use channel::Channel;
 
 mod alters;

@@ -11,7 +11,7 @@ ghost use Rattle.receiver.specs.Settling.{Bounded, Left, Worked, SettledSound, b
 ghost use Rattle.receiver.specs.Sound.{Shaped, Sound};
 ghost use Rattle.receiver.specs.Steps.{Climbed, Descended};
 
-use crate::burst::Burst;
+use crate::inner::Burst;
 use channel::Channel;
 use columns::{Column, backstep, least, step};
 

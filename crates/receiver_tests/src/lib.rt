@@ -3,6 +3,6 @@
 #[cfg(test)]
 mod edges;
 #[cfg(test)]
-mod table;
+mod table_tests;
 #[cfg(test)]
 mod worked;

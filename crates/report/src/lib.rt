@@ -1,5 +1,6 @@
 //! What is printed of a burst.
 #![tactic(auto)]
+
 mod burst;
 mod read;
 

@@ -11,7 +11,7 @@ use Rattle.receiver.specs.Bursts.{places_of}
 use Rattle.receiver.specs.Settling.{Left, SettledSound, best_cost}
 use Rattle.receiver.specs.Sound.{Sound}
 use Rattle.receiver.specs.Standing.{Standing, standing, deepened, settled}
-use Rattle.receiver.specs.declared.burst.Burst.{Burst}
+use Rattle.receiver.specs.declared.inner.Burst.{Burst}
 use Rattle.receiver.specs.declared.settle.Settled.{Settled}
 use Rattle.runs.specs.Calls.{unless, after, stale_columns, best_at, best_told}
 use Rattle.runs.specs.Law.{Goes, Alike, OfSequences, AlwaysOfSequences}

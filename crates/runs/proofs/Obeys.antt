@@ -19,7 +19,7 @@ use Rattle.receiver.specs.Readings.{Answers, Shows, Leaves}
 use Rattle.receiver.specs.Settling.{Left, SettledSound, best_cost}
 use Rattle.receiver.specs.Standing.{Standing, standing, add_refusal, added, retake_refusal, retaken, reweigh_refusal, reweighed, cut_refusal, shortened, depth_refusal, deepened, full_depth, cost_refusal, symbol_refusal, shown_refusal}
 use Rattle.receiver.specs.declared.settle.Settled.{Settled}
-use Rattle.receiver.specs.declared.burst.Burst.{Burst}
+use Rattle.receiver.specs.declared.inner.Burst.{Burst}
 use Rattle.runs.specs.Calls.{refusal_of, unless, replied, told, done, best_told, cost_at, shown_at, cost_refused, symbol_refused, shown_refused, after, answer, written}
 use Rattle.runs.specs.Obeying.{Obeyed, Obeys}
 use Rattle.runs.specs.declared.call.Answer.{Answer}

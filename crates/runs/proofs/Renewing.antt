@@ -10,7 +10,7 @@ use Rattle.recursions.specs.Depths.{depth_allowed}
 use Rattle.receiver.specs.Bursts.{places_of}
 use Rattle.receiver.specs.Sound.{Fits, Sound}
 use Rattle.receiver.specs.Standing.{Standing, standing, new_standing, add_refusal, added, depth_refusal, deepened, settled}
-use Rattle.receiver.specs.declared.burst.Burst.{Burst}
+use Rattle.receiver.specs.declared.inner.Burst.{Burst}
 use Rattle.receiver.proofs.Checks.{passes, one_passes}
 use Rattle.runs.specs.Calls.{unless, after}
 use Rattle.runs.specs.Runs.{ends, given}

@@ -5,7 +5,7 @@ use Rattle.channel.specs.Meaning.{Meaning}
 use Rattle.burst.specs.declared.place.Place.{Place}
 use Rattle.receiver.specs.Sound.{Sound}
 use Rattle.receiver.specs.Standing.{Standing, standing, new_standing}
-use Rattle.receiver.specs.declared.burst.Burst.{Burst}
+use Rattle.receiver.specs.declared.inner.Burst.{Burst}
 use Rattle.runs.specs.Calls.{after, answer, written}
 use Rattle.runs.specs.Obeying.{Obeyed, Obeys, Ran, Hears}
 use Rattle.runs.specs.Runs.{ends, answers_to, bytes_after, given}

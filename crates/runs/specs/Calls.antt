@@ -8,7 +8,7 @@ use Rattle.burst.specs.declared.refusal.Refusal.TheVariants.{TooMany, NotTaken, 
 use Rattle.cost.specs.Leans.{lean_of}
 use Rattle.recursions.specs.Answers.{value_cost, best, shown}
 use Rattle.receiver.specs.Standing.{Standing, add_refusal, added, retake_refusal, retaken, reweigh_refusal, reweighed, cut_refusal, shortened, depth_refusal, deepened, settled, full_depth, cost_refusal, symbol_refusal, shown_refusal}
-use Rattle.receiver.specs.declared.burst.Marks.{Marks}
+use Rattle.receiver.specs.declared.inner.Marks.{Marks}
 use Rattle.runs.specs.declared.call.Answer.{Answer}
 use Rattle.runs.specs.declared.call.Answer.TheVariants as answers
 use Rattle.runs.specs.declared.call.Call.{Call}

@@ -3,7 +3,7 @@ use Rattle.std.specs.Prelude.{◌≡◌, ℕ, List}
 use Rattle.channel.specs.Meaning.{Meaning}
 use Rattle.receiver.specs.Sound.{Sound}
 use Rattle.receiver.specs.Standing.{standing}
-use Rattle.receiver.specs.declared.burst.Burst.{Burst}
+use Rattle.receiver.specs.declared.inner.Burst.{Burst}
 use Rattle.runs.specs.Calls.{after, answer, written}
 use Rattle.runs.specs.Runs.{ends, answers_to, bytes_after}
 use Rattle.runs.specs.declared.call.Answer.{Answer}

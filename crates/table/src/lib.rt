@@ -1,5 +1,6 @@
 //! The table kind: what is expected under each window, and a noise.
 #![tactic(auto)]
+
 ghost use Rattle.std.specs.Prelude.{◌≡◌, ◌^◌, ◌≤◌, true, length, take};
 ghost use Rattle.table.specs.Entries.{each_in_range};
 

@@ -1,5 +1,6 @@
 //! The taps kind: an echo as a list of whole numbers, and a noise.
 #![tactic(auto)]
+
 ghost use Rattle.std.specs.Prelude.{◌≡◌, ◌≤◌, true, length, take};
 ghost use Rattle.taps.specs.Rule.{each_in_range};
 

@@ -8,7 +8,7 @@ ghost use Rattle.receiver.specs.Settling.{Bounded, Left, Worked, SettledSound};
 ghost use Rattle.receiver.specs.Sound.{Shaped, HasRoom, Sound};
 ghost use Rattle.receiver.specs.Standing.{standing, new_standing, add_refusal, depth_refusal};
 
-use crate::burst::{Burst, MOST, Marks};
+use crate::inner::{Burst, MOST, Marks};
 use crate::receiver::Receiver;
 use crate::settle::Settled;
 use burst::{Place, Refusal};

@@ -9,7 +9,7 @@ ghost use Rattle.receiver.specs.Readings.{Answers, Readable, Shows, Leaves, Show
 ghost use Rattle.receiver.specs.Sound.{Sound};
 ghost use Rattle.receiver.specs.Standing.{stale, cost_refusal, symbol_refusal, shown_refusal};
 
-use crate::burst::MOST;
+use crate::inner::MOST;
 use crate::receiver::Receiver;
 use burst::Refusal;
 use channel::Channel;

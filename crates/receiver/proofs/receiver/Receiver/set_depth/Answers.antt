@@ -4,7 +4,7 @@ use Rattle.columns.specs.Shapes.{Shapes}
 use Rattle.columns.specs.declared.shape.Shape.{Shape}
 use Rattle.receiver.specs.Sound.{Shaped}
 use Rattle.receiver.specs.Standing.{Standing}
-use Rattle.receiver.specs.declared.burst.Burst.{Burst}
+use Rattle.receiver.specs.declared.inner.Burst.{Burst}
 use Rattle.recursions.specs.Depths.{depth_allowed}
 use Rattle.receiver.proofs.Checks.{one_passes}
 use Rattle.receiver.proofs.receiver.Receiver.set_depth.Goals as goal
