@@ -1,5 +1,6 @@
 //! Where the two halves of the product meet: the least totals of a receiver's burst by a sweep of all its sequences, which at full depth are its costs.
 #![tactic(auto)]
+
 ghost use Rattle.std.specs.Prelude.{◌≡◌, ℕ, length, OnOk};
 ghost use Rattle.burst.specs.Refusals.{refused_by};
 ghost use Rattle.receiver.specs.Bursts.{places_of};
@@ -22,10 +23,10 @@ fn sweep_costs<C: Channel>(
     backward: &mut [LeastCost],
     answers: &mut [LeastCost],
 ) -> Result<(), Refusal>
-    ensures swept { Swept (meaning channel.now) places.now result forward.old forward.new backward.old backward.new answers.old answers.new }
-    ensures room { AllFit (meaning channel.now) places.now → refused_by result ≡ room_refusal (meaning channel.now) (length places.now) (length forward.old) (length backward.old) (length answers.old) }
-    ensures least { OnOk result (LeastTotals (meaning channel.now) places.now answers.new) }
-    ensures costs { (q : ℕ) → q ≡ (meaning channel.now).memory → OnOk result (ValueCosts (meaning channel.now) q places.now answers.new) }
+    ensures swept { Swept (C.meaning channel.now) places.now result forward.old forward.new backward.old backward.new answers.old answers.new }
+    ensures room { AllFit (C.meaning channel.now) places.now → refused_by result ≡ room_refusal (C.meaning channel.now) (length places.now) (length forward.old) (length backward.old) (length answers.old) }
+    ensures least { OnOk result (LeastTotals (C.meaning channel.now) places.now answers.new) }
+    ensures costs { (q : ℕ) → q ≡ (C.meaning channel.now).memory → OnOk result (ValueCosts (C.meaning channel.now) q places.now answers.new) }
 {
     sweep(channel, places, forward, backward, answers)
 }
@@ -33,7 +34,7 @@ fn sweep_costs<C: Channel>(
 // The places of a receiver, which all fit if it is sound.
 fn places_of<C: Channel>(receiver: &Receiver<C>) -> &[Place]
     ensures places { result.now ≡ places_of receiver.now.burst }
-    ensures fit { Sound (meaning receiver.now.channel) receiver.now.burst → AllFit (meaning receiver.now.channel) result.now }
+    ensures fit { Sound (C.meaning receiver.now.channel) receiver.now.burst → AllFit (C.meaning receiver.now.channel) result.now }
 {
     receiver.places()
 }
@@ -49,10 +50,10 @@ pub fn least_totals<C: Channel>(
     backward: &mut [LeastCost],
     answers: &mut [LeastCost],
 ) -> Result<(), Refusal>
-    ensures swept { Swept (meaning receiver.now.channel) (places_of receiver.now.burst) result forward.old forward.new backward.old backward.new answers.old answers.new }
-    ensures room { Sound (meaning receiver.now.channel) receiver.now.burst → refused_by result ≡ room_refusal (meaning receiver.now.channel) (length (places_of receiver.now.burst)) (length forward.old) (length backward.old) (length answers.old) }
-    ensures least { OnOk result (LeastTotals (meaning receiver.now.channel) (places_of receiver.now.burst) answers.new) }
-    ensures costs { receiver.now.burst.depth ≡ (meaning receiver.now.channel).memory → OnOk result (ValueCosts (meaning receiver.now.channel) receiver.now.burst.depth (places_of receiver.now.burst) answers.new) }
+    ensures swept { Swept (C.meaning receiver.now.channel) (places_of receiver.now.burst) result forward.old forward.new backward.old backward.new answers.old answers.new }
+    ensures room { Sound (C.meaning receiver.now.channel) receiver.now.burst → refused_by result ≡ room_refusal (C.meaning receiver.now.channel) (length (places_of receiver.now.burst)) (length forward.old) (length backward.old) (length answers.old) }
+    ensures least { OnOk result (LeastTotals (C.meaning receiver.now.channel) (places_of receiver.now.burst) answers.new) }
+    ensures costs { receiver.now.burst.depth ≡ (C.meaning receiver.now.channel).memory → OnOk result (ValueCosts (C.meaning receiver.now.channel) receiver.now.burst.depth (places_of receiver.now.burst) answers.new) }
 {
     let places = places_of(receiver);
     sweep_costs(receiver.channel(), places, forward, backward, answers)

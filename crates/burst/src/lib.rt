@@ -1,5 +1,6 @@
 //! The places of a burst, each a sample and four priors, and why a call on places is refused.
 #![tactic(auto)]
+
 mod memory;
 mod place;
 mod priors;

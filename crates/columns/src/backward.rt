@@ -34,7 +34,7 @@ pub fn backstep<C: Channel>(
     column: &Column,
     later: &[u32; 16],
 ) -> [u32; 16]
-    ensures backstepped { (q b : ℕ) → Shapes (meaning channel.now) q shape → CostsWithin b later.now → b ≤ 40000000 → Backstepped (meaning channel.now) q place.now column.now later.now result }
+    ensures backstepped { (q b : ℕ) → Shapes (C.meaning channel.now) q shape → CostsWithin b later.now → b ≤ 40000000 → Backstepped (C.meaning channel.now) q place.now column.now later.now result }
     ensures within { (b : ℕ) → CostsWithin b later.now → b ≤ 40000000 → CostsWithin (b + 131069) result }
 {
     let weights = weigh(channel, shape, place, column);
@@ -67,7 +67,7 @@ pub fn meeting<C: Channel>(
     later: &[u32; 16],
     symbol: usize,
 ) -> u32
-    ensures met { (q b : ℕ) → Shapes (meaning channel.now) q shape → CostsWithin b column.now.costs → CostsWithin b later.now → b ≤ 20000000 → symbol < shape.symbols → Met (meaning channel.now) q place.now column.now later.now symbol result }
+    ensures met { (q b : ℕ) → Shapes (C.meaning channel.now) q shape → CostsWithin b column.now.costs → CostsWithin b later.now → b ≤ 20000000 → symbol < shape.symbols → Met (C.meaning channel.now) q place.now column.now later.now symbol result }
     ensures within { (b : ℕ) → CostsWithin b column.now.costs → CostsWithin b later.now → b ≤ 20000000 → Within (b + 131069 + b) result }
 {
     if shape.symbols <= symbol {

@@ -75,7 +75,7 @@ fn arrive(shape: Shape, column: &Column, sums: &[u32; 64], state: usize) -> Arri
 
 /// The column after a place more, worked from the column before it.
 pub fn step<C: Channel>(channel: &C, shape: Shape, place: &Place, column: &Column) -> Column
-    ensures stepped { (q b : ℕ) → Shapes (meaning channel.now) q shape → CostsWithin b column.now.costs → b ≤ 40000000 → Stepped (meaning channel.now) q place.now column.now result }
+    ensures stepped { (q b : ℕ) → Shapes (C.meaning channel.now) q shape → CostsWithin b column.now.costs → b ≤ 40000000 → Stepped (C.meaning channel.now) q place.now column.now result }
     ensures within { (b : ℕ) → CostsWithin b column.now.costs → b ≤ 40000000 → CostsWithin (b + 131069) result.costs }
     ensures survivors { SurvivorsBelow result }
 {

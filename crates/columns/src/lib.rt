@@ -1,5 +1,6 @@
 //! The columns of a receiver: the sizes of its trellis, and how one column is worked from its neighbour.
 #![tactic(auto)]
+
 mod backward;
 mod column;
 mod ends;

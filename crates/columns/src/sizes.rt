@@ -14,23 +14,23 @@ impl Shape {
 
     // The number of states at a depth that is not past the memory.
     fn count<C: Channel>(channel: &C, depth: usize) -> usize
-        requires { depth ≤ (meaning channel.now).memory }
-        ensures { result ≡ states (meaning channel.now) depth }
+        requires { depth ≤ (C.meaning channel.now).memory }
+        ensures { result ≡ states (C.meaning channel.now) depth }
     {
         C::alphabet().pow(depth.saturating_sub(1) as u32)
     }
 
     // Whether a depth is allowed.
     fn allowed<C: Channel>(channel: &C, depth: usize) -> bool
-        ensures { result ≡ depth_allowed (meaning channel.now) depth }
+        ensures { result ≡ depth_allowed (C.meaning channel.now) depth }
     {
         1 <= depth && depth <= channel.memory() && Self::count(channel, depth) <= Self::STATES
     }
 
     // The shape at a depth that is allowed.
     fn of<C: Channel>(channel: &C, depth: usize) -> Shape
-        requires { depth_allowed (meaning channel.now) depth ≡ true }
-        ensures { Shapes (meaning channel.now) depth result }
+        requires { depth_allowed (C.meaning channel.now) depth ≡ true }
+        ensures { Shapes (C.meaning channel.now) depth result }
     {
         Shape {
             symbols: C::alphabet(),
@@ -41,7 +41,7 @@ impl Shape {
 
     /// The shape of a channel's trellis at a depth, if that depth is allowed.
     pub fn new<C: Channel>(channel: &C, depth: usize) -> Result<Shape, Refusal>
-        ensures { MatchResult result (λ s. (depth_allowed (meaning channel.now) depth ≡ true) × Shapes (meaning channel.now) depth s) (λ e. (depth_allowed (meaning channel.now) depth ≡ false) × (number_of e ≡ 7)) }
+        ensures { MatchResult result (λ s. (depth_allowed (C.meaning channel.now) depth ≡ true) × Shapes (C.meaning channel.now) depth s) (λ e. (depth_allowed (C.meaning channel.now) depth ≡ false) × (number_of e ≡ 7)) }
     {
         if !Self::allowed(channel, depth) {
             return Err(Refusal::BadDepth);
@@ -59,9 +59,9 @@ impl Shape {
 
     /// The largest allowed depth of a channel, and its shape.
     pub fn deepest<C: Channel>(channel: &C) -> (usize, Shape)
-        ensures depth { result.0 ≡ largest_depth (meaning channel.now) }
-        ensures allowed { depth_allowed (meaning channel.now) result.0 ≡ true }
-        ensures shape { Shapes (meaning channel.now) result.0 result.1 }
+        ensures depth { result.0 ≡ largest_depth (C.meaning channel.now) }
+        ensures allowed { depth_allowed (C.meaning channel.now) result.0 ≡ true }
+        ensures shape { Shapes (C.meaning channel.now) result.0 result.1 }
     {
         let depth = channel.memory().min(Self::limit::<C>());
         (depth, Self::of(channel, depth))

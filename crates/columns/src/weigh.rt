@@ -17,7 +17,7 @@ pub(crate) const BARRED: u32 = u32::MAX;
 
 // The channel's cost of a window, plus the prior of a symbol.
 fn weight<C: Channel>(channel: &C, place: &Place, window: usize, symbol: usize) -> u32
-    ensures value { as_cost result ≡ plus (cost_of (meaning channel.now) place.now.sample window) (prior_cost place.now.priors symbol) }
+    ensures value { as_cost result ≡ plus (cost_of (C.meaning channel.now) place.now.sample window) (prior_cost place.now.priors symbol) }
     ensures small { Within 131069 result }
 {
     match (
@@ -36,7 +36,7 @@ pub(crate) fn weigh<C: Channel>(
     place: &Place,
     column: &Column,
 ) -> [u32; 64]
-    ensures value { (p : ℕ) → p < pairs shape → as_cost (slice_index result p) ≡ pair_weight (meaning channel.now) shape.symbols place.now column.now.histories p }
+    ensures value { (p : ℕ) → p < pairs shape → as_cost (slice_index result p) ≡ pair_weight (C.meaning channel.now) shape.symbols place.now column.now.histories p }
     ensures small { (p : ℕ) → p < 64 → Within 131069 (slice_index result p) }
 {
     let mut weights = [BARRED; 64];

@@ -1,5 +1,6 @@
 //! Counts the sequences of a small burst by the symbol at each place, before and after a place is pinned.
 #![tactic(auto)]
+
 ghost use Rattle.count.specs.Worked.{CountsWorked};
 
 use burst::{Place, Priors};

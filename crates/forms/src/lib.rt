@@ -1,5 +1,6 @@
 //! The lines of a burst text: which forms there are, and how a line is read as one.
 #![tactic(auto)]
+
 mod fault;
 mod head;
 mod held;

@@ -1,5 +1,6 @@
 //! Channels as a burst text has them: each kind's line, and the channel that it loads.
 #![tactic(auto)]
+
 ghost use Rattle.std.specs.Prelude.{◌≡◌};
 ghost use Rattle.forms.specs.Forms.{Form as Forms};
 ghost use Rattle.kinds.specs.Rules.{Rule, Loads, Spells};

@@ -1,5 +1,6 @@
 //! Prices a small burst under an echo of two taps, and shows that a refused load changes nothing.
 #![tactic(auto)]
+
 use channel::{Channel, Sample};
 use cost::Cost;
 use taps::Taps;

@@ -1,5 +1,6 @@
 //! Prices a sample by each kind of channel, and shows that a refused load changes nothing.
 #![tactic(auto)]
+
 use channel::{Channel, Refusal, Sample};
 use code::Code;
 use table::{Entry, Table};

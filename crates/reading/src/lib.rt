@@ -1,5 +1,6 @@
 //! Reading a whole burst text into a receiver.
 #![tactic(auto)]
+
 mod add;
 mod both;
 mod first;

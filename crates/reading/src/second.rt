@@ -20,7 +20,7 @@ fn as_depth(depth: i32) -> usize
 
 // A receiver without places, at a depth.
 fn receive<C: Spelled + Drop>(channel: C, depth: i32) -> Result<Receiver<C>, Refusal>
-    ensures { Receives (C.Channel.meaning channel) channel (depth_of depth) result }
+    ensures { Receives (C.meaning channel) channel (depth_of depth) result }
 {
     let mut receiver = Receiver::new(channel);
     receiver.set_depth(as_depth(depth))?;
@@ -30,7 +30,7 @@ fn receive<C: Spelled + Drop>(channel: C, depth: i32) -> Result<Receiver<C>, Ref
 /// The depth line after a channel line, and the receiver of both.
 pub(crate) fn read_depth<C: Spelled + Drop>(channel: C, line: &[u8]) -> Result<Receiver<C>, Cause>
     ensures does { At C.Spelled.rule 2 (tuned (C.Spelled.form channel)) line.now (state_of C.Spelled.form) result }
-    ensures begun { IfOk result (λ w. Begun (C.Channel.meaning w.channel) w) }
+    ensures begun { IfOk result (λ w. Begun (C.meaning w.channel) w) }
 {
     if line.is_empty() {
         return Err(Cause::Text(Malformed::Heads));
@@ -67,7 +67,7 @@ pub(crate) fn read_channel_line<C: Spelled + Drop>(
     line: &[u8],
 ) -> Result<Receiver<C>, Fault>
     ensures does { AtLine C.Spelled.rule 2 (deep depth) line.now (state_of C.Spelled.form) result }
-    ensures begun { IfOk result (λ w. Begun (C.Channel.meaning w.channel) w) }
+    ensures begun { IfOk result (λ w. Begun (C.meaning w.channel) w) }
 {
     match read_channel(line) {
         Ok(channel) => match receive::<C>(channel, depth) {

@@ -1,8 +1,9 @@
 //! The receiver: a burst's places with their columns, worked as far as they are asked for, and read.
 #![tactic(auto)]
+
 mod alter;
-mod inner;
 mod change;
+mod inner;
 mod read;
 mod receiver;
 mod settle;

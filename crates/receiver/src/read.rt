@@ -23,7 +23,7 @@ impl Burst {
     fn meet<C: Channel>(&self, channel: &C, place: usize, symbol: usize) -> u32
         requires sized { Sized self.now }
         requires place { place < 128 }
-        ensures { (q b : ℕ) → Shapes (meaning channel.now) q self.now.shape → CostsWithin b (forward_at self.now place).costs → CostsWithin b (backward_at self.now (place + 1)) → b ≤ 20000000 → symbol < self.now.shape.symbols → Met (meaning channel.now) q (place_at self.now.places place) (forward_at self.now place) (backward_at self.now (place + 1)) symbol result }
+        ensures { (q b : ℕ) → Shapes (C.meaning channel.now) q self.now.shape → CostsWithin b (forward_at self.now place).costs → CostsWithin b (backward_at self.now (place + 1)) → b ≤ 20000000 → symbol < self.now.shape.symbols → Met (C.meaning channel.now) q (place_at self.now.places place) (forward_at self.now place) (backward_at self.now (place + 1)) symbol result }
     {
         meeting(
             channel,
@@ -40,8 +40,8 @@ impl Burst {
         requires kept { Kept self.now }
         requires fresh { Fresh self.now }
         requires place { place < self.now.count }
-        requires symbol { symbol < (meaning channel.now).symbols }
-        ensures { Sound (meaning channel.now) self.now → result ≡ value_cost (meaning channel.now) self.now.depth (places_of self.now) place symbol }
+        requires symbol { symbol < (C.meaning channel.now).symbols }
+        ensures { Sound (C.meaning channel.now) self.now → result ≡ value_cost (C.meaning channel.now) self.now.depth (places_of self.now) place symbol }
     {
         let number = self.meet(channel, place, symbol);
         if number == u32::MAX {

@@ -27,7 +27,7 @@ impl Burst {
     fn next_column<C: Channel>(&self, channel: &C, k: usize) -> Column
         requires sized { Sized self.now }
         requires place { k < 128 }
-        ensures stepped { (q b : ℕ) → Shapes (meaning channel.now) q self.now.shape → CostsWithin b (forward_at self.now k).costs → b ≤ 40000000 → Stepped (meaning channel.now) q (place_at self.now.places k) (forward_at self.now k) result }
+        ensures stepped { (q b : ℕ) → Shapes (C.meaning channel.now) q self.now.shape → CostsWithin b (forward_at self.now k).costs → b ≤ 40000000 → Stepped (C.meaning channel.now) q (place_at self.now.places k) (forward_at self.now k) result }
         ensures within { (b : ℕ) → CostsWithin b (forward_at self.now k).costs → b ≤ 40000000 → CostsWithin (b + 131069) result.costs }
         ensures survivors { SurvivorsBelow result }
     {
@@ -38,7 +38,7 @@ impl Burst {
     fn column_before<C: Channel>(&self, channel: &C, k: usize) -> [u32; 16]
         requires sized { Sized self.now }
         requires place { k < 128 }
-        ensures backstepped { (q b : ℕ) → Shapes (meaning channel.now) q self.now.shape → CostsWithin b (backward_at self.now (k + 1)) → b ≤ 40000000 → Backstepped (meaning channel.now) q (place_at self.now.places k) (forward_at self.now k) (backward_at self.now (k + 1)) result }
+        ensures backstepped { (q b : ℕ) → Shapes (C.meaning channel.now) q self.now.shape → CostsWithin b (backward_at self.now (k + 1)) → b ≤ 40000000 → Backstepped (C.meaning channel.now) q (place_at self.now.places k) (forward_at self.now k) (backward_at self.now (k + 1)) result }
         ensures within { (b : ℕ) → CostsWithin b (backward_at self.now (k + 1)) → b ≤ 40000000 → CostsWithin (b + 131069) result }
     {
         backstep(
@@ -53,7 +53,7 @@ impl Burst {
     // Works the forward columns that are stale.
     fn climb<C: Channel>(&mut self, channel: &C)
         requires { Sized self.old }
-        ensures climbed { Climbed (meaning channel.now) self.old self.new }
+        ensures climbed { Climbed (C.meaning channel.now) self.old self.new }
         ensures sized { Sized self.new }
         ensures done { self.new.marks.forward ≡ self.old.count }
     {
@@ -68,7 +68,7 @@ impl Burst {
     // Works the backward columns that are stale.
     fn descend<C: Channel>(&mut self, channel: &C)
         requires { Sized self.old }
-        ensures descended { Descended (meaning channel.now) self.old self.new }
+        ensures descended { Descended (C.meaning channel.now) self.old self.new }
         ensures sized { Sized self.new }
         ensures done { self.new.marks.backward ≡ 0 }
     {
@@ -95,9 +95,9 @@ impl Burst {
         requires { Sized self.old }
         ensures count { result.columns ≡ self.old.count - self.old.marks.forward + self.old.marks.backward }
         ensures left { Left self.old self.new }
-        ensures worked { Shaped (meaning channel.now) self.old → Bounded self.old → Worked (meaning channel.now) self.old self.new result.best }
+        ensures worked { Shaped (C.meaning channel.now) self.old → Bounded self.old → Worked (C.meaning channel.now) self.old self.new result.best }
         ensures kept { Kept self.old → Kept self.new }
-        ensures sound { Kept self.old → Sound (meaning channel.now) self.old → SettledSound (meaning channel.now) self.old self.new result.best }
+        ensures sound { Kept self.old → Sound (C.meaning channel.now) self.old → SettledSound (C.meaning channel.now) self.old self.new result.best }
     {
         let columns = self.count - self.marks.forward + self.marks.backward;
         self.climb(channel);

@@ -1,5 +1,6 @@
 //! Tests of the receiver on the worked bursts and at the edges of its rules.
 #![tactic(auto)]
+
 #[cfg(test)]
 mod edges;
 #[cfg(test)]

@@ -1,5 +1,6 @@
 //! Works receivers through calls, and sees that new ones that are given what stands cannot be told from them.
 #![tactic(auto)]
+
 ghost use Rattle.rework.specs.Worked.{Reworked};
 
 use burst::{Place, Priors};

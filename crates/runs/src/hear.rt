@@ -19,8 +19,8 @@ pub(crate) fn hear<C: Channel, D: Channel>(
     heard: &mut [Heard],
 ) -> usize
     ensures asked { result ≡ min (length list.now) (length heard.old) }
-    ensures one { Sound (C.Channel.meaning one.old.channel) one.old.burst → Hears (C.Channel.meaning one.old.channel) (take result list.now) one.old.burst one.new.burst bytes.old bytes.new (one_said result heard.new) }
-    ensures other { Sound (D.Channel.meaning other.old.channel) other.old.burst → Hears (D.Channel.meaning other.old.channel) (take result list.now) other.old.burst other.new.burst other_bytes.old other_bytes.new (other_said result heard.new) }
+    ensures one { Sound (C.meaning one.old.channel) one.old.burst → Hears (C.meaning one.old.channel) (take result list.now) one.old.burst one.new.burst bytes.old bytes.new (one_said result heard.new) }
+    ensures other { Sound (D.meaning other.old.channel) other.old.burst → Hears (D.meaning other.old.channel) (take result list.now) other.old.burst other.new.burst other_bytes.old other_bytes.new (other_said result heard.new) }
 {
     let n = list.len().min(heard.len());
     for i in 0..n {

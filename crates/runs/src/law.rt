@@ -32,10 +32,10 @@ pub fn compare<C: Channel + Drop, D: Channel + Drop>(
     heard: &mut [Heard],
 ) -> Compared
     ensures heard { result.heard ≡ min (length further.now) (length heard.old) }
-    ensures worked { Goes (C.Channel.meaning channel) (ends (C.Channel.meaning channel) calls.now (new_standing (C.Channel.meaning channel))) (take result.heard further.now) result.worked (one_said result.heard heard.new) bytes.old bytes.new }
-    ensures renewed { Goes (D.Channel.meaning other) (given (D.Channel.meaning other) (worked (C.Channel.meaning channel) calls.now)) (take result.heard further.now) result.renewed (other_said result.heard heard.new) other_bytes.old other_bytes.new }
-    ensures alike { C.Channel.meaning channel ≡ D.Channel.meaning other → bytes.old ≡ other_bytes.old → Alike result.worked result.renewed (one_said result.heard heard.new) (other_said result.heard heard.new) bytes.new other_bytes.new }
-    ensures sequences { AlwaysOfSequences (C.Channel.meaning channel) (worked (C.Channel.meaning channel) calls.now) }
+    ensures worked { Goes (C.meaning channel) (ends (C.meaning channel) calls.now (new_standing (C.meaning channel))) (take result.heard further.now) result.worked (one_said result.heard heard.new) bytes.old bytes.new }
+    ensures renewed { Goes (D.meaning other) (given (D.meaning other) (worked (C.meaning channel) calls.now)) (take result.heard further.now) result.renewed (other_said result.heard heard.new) other_bytes.old other_bytes.new }
+    ensures alike { C.meaning channel ≡ D.meaning other → bytes.old ≡ other_bytes.old → Alike result.worked result.renewed (one_said result.heard heard.new) (other_said result.heard heard.new) bytes.new other_bytes.new }
+    ensures sequences { AlwaysOfSequences (C.meaning channel) (worked (C.meaning channel) calls.now) }
 {
     let mut one = Receiver::new(channel);
     run(&mut one, calls);

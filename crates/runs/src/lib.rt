@@ -1,5 +1,6 @@
 //! Whole runs of calls on receivers.
 #![tactic(auto)]
+
 mod call;
 mod hear;
 mod law;

@@ -55,7 +55,7 @@ fn told_symbol(res: Result<u8, Refusal>) -> Answer
 // Appends a place.
 pub(crate) fn add<C: Channel>(receiver: &mut Receiver<C>, place: Place) -> Answer
     ensures channel { receiver.new.channel ≡ receiver.old.channel }
-    ensures obeyed { Sound (meaning receiver.old.channel) receiver.old.burst → Obeys (meaning receiver.old.channel) (calls.Add place) receiver.old.burst receiver.new.burst result }
+    ensures obeyed { Sound (C.meaning receiver.old.channel) receiver.old.burst → Obeys (C.meaning receiver.old.channel) (calls.Add place) receiver.old.burst receiver.new.burst result }
 {
     told_done(receiver.add(place))
 }
@@ -63,7 +63,7 @@ pub(crate) fn add<C: Channel>(receiver: &mut Receiver<C>, place: Place) -> Answe
 // Changes a sample.
 fn retake<C: Channel>(receiver: &mut Receiver<C>, place: usize, sample: Sample) -> Answer
     ensures channel { receiver.new.channel ≡ receiver.old.channel }
-    ensures obeyed { Sound (meaning receiver.old.channel) receiver.old.burst → Obeys (meaning receiver.old.channel) (calls.Retake place sample) receiver.old.burst receiver.new.burst result }
+    ensures obeyed { Sound (C.meaning receiver.old.channel) receiver.old.burst → Obeys (C.meaning receiver.old.channel) (calls.Retake place sample) receiver.old.burst receiver.new.burst result }
 {
     told_done(receiver.retake(place, sample))
 }
@@ -71,7 +71,7 @@ fn retake<C: Channel>(receiver: &mut Receiver<C>, place: usize, sample: Sample) 
 // Changes priors.
 fn reweigh<C: Channel>(receiver: &mut Receiver<C>, place: usize, priors: Priors) -> Answer
     ensures channel { receiver.new.channel ≡ receiver.old.channel }
-    ensures obeyed { Sound (meaning receiver.old.channel) receiver.old.burst → Obeys (meaning receiver.old.channel) (calls.Reweigh place priors) receiver.old.burst receiver.new.burst result }
+    ensures obeyed { Sound (C.meaning receiver.old.channel) receiver.old.burst → Obeys (C.meaning receiver.old.channel) (calls.Reweigh place priors) receiver.old.burst receiver.new.burst result }
 {
     told_done(receiver.reweigh(place, priors))
 }
@@ -79,7 +79,7 @@ fn reweigh<C: Channel>(receiver: &mut Receiver<C>, place: usize, priors: Priors)
 // Removes places.
 fn cut<C: Channel>(receiver: &mut Receiver<C>, n: usize) -> Answer
     ensures channel { receiver.new.channel ≡ receiver.old.channel }
-    ensures obeyed { Sound (meaning receiver.old.channel) receiver.old.burst → Obeys (meaning receiver.old.channel) (calls.Cut n) receiver.old.burst receiver.new.burst result }
+    ensures obeyed { Sound (C.meaning receiver.old.channel) receiver.old.burst → Obeys (C.meaning receiver.old.channel) (calls.Cut n) receiver.old.burst receiver.new.burst result }
 {
     told_done(receiver.cut(n))
 }
@@ -87,7 +87,7 @@ fn cut<C: Channel>(receiver: &mut Receiver<C>, n: usize) -> Answer
 // Sets the depth.
 pub(crate) fn deepen<C: Channel>(receiver: &mut Receiver<C>, depth: usize) -> Answer
     ensures channel { receiver.new.channel ≡ receiver.old.channel }
-    ensures obeyed { Sound (meaning receiver.old.channel) receiver.old.burst → Obeys (meaning receiver.old.channel) (calls.Depth depth) receiver.old.burst receiver.new.burst result }
+    ensures obeyed { Sound (C.meaning receiver.old.channel) receiver.old.burst → Obeys (C.meaning receiver.old.channel) (calls.Depth depth) receiver.old.burst receiver.new.burst result }
 {
     told_done(receiver.set_depth(depth))
 }
@@ -95,42 +95,42 @@ pub(crate) fn deepen<C: Channel>(receiver: &mut Receiver<C>, depth: usize) -> An
 // Works the stale columns.
 fn settle<C: Channel>(receiver: &mut Receiver<C>) -> Answer
     ensures channel { receiver.new.channel ≡ receiver.old.channel }
-    ensures obeyed { Sound (meaning receiver.old.channel) receiver.old.burst → Obeys (meaning receiver.old.channel) calls.Settle receiver.old.burst receiver.new.burst result }
+    ensures obeyed { Sound (C.meaning receiver.old.channel) receiver.old.burst → Obeys (C.meaning receiver.old.channel) calls.Settle receiver.old.burst receiver.new.burst result }
 {
     Answer::Settled(receiver.settle())
 }
 
 // Tells a cost.
 fn cost<C: Channel>(receiver: &Receiver<C>, place: usize, value: usize) -> Answer
-    ensures { Sound (meaning receiver.now.channel) receiver.now.burst → Obeys (meaning receiver.now.channel) (calls.Cost place value) receiver.now.burst receiver.now.burst result }
+    ensures { Sound (C.meaning receiver.now.channel) receiver.now.burst → Obeys (C.meaning receiver.now.channel) (calls.Cost place value) receiver.now.burst receiver.now.burst result }
 {
     told_cost(receiver.cost(place, value))
 }
 
 // Tells a lean.
 fn lean<C: Channel>(receiver: &Receiver<C>, place: usize, value: usize) -> Answer
-    ensures { Sound (meaning receiver.now.channel) receiver.now.burst → Obeys (meaning receiver.now.channel) (calls.Lean place value) receiver.now.burst receiver.now.burst result }
+    ensures { Sound (C.meaning receiver.now.channel) receiver.now.burst → Obeys (C.meaning receiver.now.channel) (calls.Lean place value) receiver.now.burst receiver.now.burst result }
 {
     told_lean(receiver.lean(place, value))
 }
 
 // Tells a symbol.
 fn symbol<C: Channel>(receiver: &Receiver<C>, place: usize) -> Answer
-    ensures { Sound (meaning receiver.now.channel) receiver.now.burst → Obeys (meaning receiver.now.channel) (calls.Symbol place) receiver.now.burst receiver.now.burst result }
+    ensures { Sound (C.meaning receiver.now.channel) receiver.now.burst → Obeys (C.meaning receiver.now.channel) (calls.Symbol place) receiver.now.burst receiver.now.burst result }
 {
     told_symbol(receiver.symbol(place))
 }
 
 // Writes the shown symbols.
 fn shown<C: Channel>(receiver: &Receiver<C>, bytes: &mut [u8]) -> Answer
-    ensures { Sound (meaning receiver.now.channel) receiver.now.burst → Obeyed (meaning receiver.now.channel) calls.Shown receiver.now.burst receiver.now.burst bytes.old bytes.new result }
+    ensures { Sound (C.meaning receiver.now.channel) receiver.now.burst → Obeyed (C.meaning receiver.now.channel) calls.Shown receiver.now.burst receiver.now.burst bytes.old bytes.new result }
 {
     told_done(receiver.shown(bytes))
 }
 
 // Tells the marks.
 fn marks<C: Channel>(receiver: &Receiver<C>) -> Answer
-    ensures { Sound (meaning receiver.now.channel) receiver.now.burst → Obeys (meaning receiver.now.channel) calls.Marks receiver.now.burst receiver.now.burst result }
+    ensures { Sound (C.meaning receiver.now.channel) receiver.now.burst → Obeys (C.meaning receiver.now.channel) calls.Marks receiver.now.burst receiver.now.burst result }
 {
     Answer::Marks(receiver.marks())
 }
@@ -138,7 +138,7 @@ fn marks<C: Channel>(receiver: &Receiver<C>) -> Answer
 // Does what a call says. A reading that writes bytes writes them into the list.
 pub(crate) fn obey<C: Channel>(receiver: &mut Receiver<C>, call: Call, bytes: &mut [u8]) -> Answer
     ensures channel { receiver.new.channel ≡ receiver.old.channel }
-    ensures obeyed { Sound (meaning receiver.old.channel) receiver.old.burst → Obeyed (meaning receiver.old.channel) call receiver.old.burst receiver.new.burst bytes.old bytes.new result }
+    ensures obeyed { Sound (C.meaning receiver.old.channel) receiver.old.burst → Obeyed (C.meaning receiver.old.channel) call receiver.old.burst receiver.new.burst bytes.old bytes.new result }
 {
     match call {
         Call::Add(place) => add(receiver, place),

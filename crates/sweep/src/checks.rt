@@ -13,7 +13,7 @@ const MOST_PLACES: usize = 128;
 
 // Whether the channel takes each sample.
 fn all_taken<C: Channel>(channel: &C, places: &[Place]) -> bool
-    ensures { result ≡ each_taken (meaning channel.now) places.now }
+    ensures { result ≡ each_taken (C.meaning channel.now) places.now }
 {
     for place in places {
         if !channel.takes(place.sample) {
@@ -62,9 +62,9 @@ pub(crate) fn check<C: Channel>(
     sizes: Sizes,
     lengths: Lengths,
 ) -> Result<(), Refusal>
-    requires { Sized (meaning channel.now) sizes.symbols sizes.states }
+    requires { Sized (C.meaning channel.now) sizes.symbols sizes.states }
     ensures room { OnOk result (Roomy sizes.symbols sizes.states (length places.now) lengths.forward lengths.backward lengths.answers) }
-    ensures refusal { refused_by result ≡ sweep_refusal (meaning channel.now) places.now lengths.forward lengths.backward lengths.answers }
+    ensures refusal { refused_by result ≡ sweep_refusal (C.meaning channel.now) places.now lengths.forward lengths.backward lengths.answers }
 {
     if MOST_PLACES < places.len() {
         return Err(Refusal::TooMany);

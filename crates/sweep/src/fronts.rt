@@ -27,13 +27,13 @@ fn gather<C: Channel, J: Joining>(
     column: usize,
     state: usize,
 ) -> J
-    requires sized { Sized (meaning channel.now) sizes.symbols sizes.states }
+    requires sized { Sized (C.meaning channel.now) sizes.symbols sizes.states }
     requires few { length places.now ≤ 128 }
     requires place { column < length places.now }
     requires state { state < sizes.states }
     requires room { (column + 1) * sizes.states ≤ length forward.now }
-    requires before { Column operations.none forward.now sizes.states column (forward_element_of (full_trellis operations worthOf (meaning channel.now) places.now) column) }
-    ensures { result ≡ forward_element_of (full_trellis operations worthOf (meaning channel.now) places.now) (column + 1) state }
+    requires before { Column operations.none forward.now sizes.states column (forward_element_of (full_trellis operations worthOf (C.meaning channel.now) places.now) column) }
+    ensures { result ≡ forward_element_of (full_trellis operations worthOf (C.meaning channel.now) places.now) (column + 1) state }
 {
     let mut ways = J::none();
     for oldest in 0..sizes.symbols {
@@ -54,12 +54,12 @@ fn forward_element<C: Channel, J: Joining>(
     forward: &[J],
     index: usize,
 ) -> J
-    requires sized { Sized (meaning channel.now) sizes.symbols sizes.states }
+    requires sized { Sized (C.meaning channel.now) sizes.symbols sizes.states }
     requires few { length places.now ≤ 128 }
     requires index { index < (length places.now + 1) * sizes.states }
     requires room { (length places.now + 1) * sizes.states ≤ length forward.now }
-    requires before { Holds operations.none forward.now sizes.states 0 index (forward_element_of (full_trellis operations worthOf (meaning channel.now) places.now)) }
-    ensures { result ≡ forward_element_of (full_trellis operations worthOf (meaning channel.now) places.now) (index / sizes.states) (index % sizes.states) }
+    requires before { Holds operations.none forward.now sizes.states 0 index (forward_element_of (full_trellis operations worthOf (C.meaning channel.now) places.now)) }
+    ensures { result ≡ forward_element_of (full_trellis operations worthOf (C.meaning channel.now) places.now) (index / sizes.states) (index % sizes.states) }
 {
     let column = index / sizes.states;
     let state = index % sizes.states;
@@ -76,10 +76,10 @@ pub(crate) fn fill_forward<C: Channel, J: Joining>(
     sizes: Sizes,
     forward: &mut [J],
 )
-    requires sized { Sized (meaning channel.now) sizes.symbols sizes.states }
+    requires sized { Sized (C.meaning channel.now) sizes.symbols sizes.states }
     requires few { length places.now ≤ 128 }
     requires room { (length places.now + 1) * sizes.states ≤ length forward.old }
-    ensures { Filled operations.none forward.old forward.new (length places.now + 1) sizes.states (forward_element_of (full_trellis operations worthOf (meaning channel.now) places.now)) }
+    ensures { Filled operations.none forward.old forward.new (length places.now + 1) sizes.states (forward_element_of (full_trellis operations worthOf (C.meaning channel.now) places.now)) }
 {
     for index in 0..column_elements(places.len(), sizes) {
         let value = forward_element(channel, places, sizes, forward, index);

@@ -1,5 +1,6 @@
 //! The sweep: under any joining, what all sequences of a burst are worth, by history and by symbol; and the pinning of a place.
 #![tactic(auto)]
+
 ghost use Rattle.std.specs.Prelude.{◌≡◌, length, OnOk};
 ghost use Rattle.burst.specs.Refusals.{refused_by};
 ghost use Rattle.sweep.specs.Checks.{sweep_refusal};
@@ -33,11 +34,11 @@ pub fn sweep<C: Channel, J: Joining>(
     backward: &mut [J],
     answers: &mut [J],
 ) -> Result<(), Refusal>
-    ensures refusal { refused_by result ≡ sweep_refusal (meaning channel.now) places.now (length forward.old) (length backward.old) (length answers.old) }
-    ensures forward { ForwardStands operations worthOf (meaning channel.now) places.now result forward.old forward.new }
-    ensures backward { BackwardStands operations worthOf (meaning channel.now) places.now result backward.old backward.new }
-    ensures answers { AnswersStand operations worthOf (meaning channel.now) places.now result answers.old answers.new }
-    ensures own { OnOk result (OwnWindows operations worthOf (meaning channel.now) places.now) }
+    ensures refusal { refused_by result ≡ sweep_refusal (C.meaning channel.now) places.now (length forward.old) (length backward.old) (length answers.old) }
+    ensures forward { ForwardStands operations worthOf (C.meaning channel.now) places.now result forward.old forward.new }
+    ensures backward { BackwardStands operations worthOf (C.meaning channel.now) places.now result backward.old backward.new }
+    ensures answers { AnswersStand operations worthOf (C.meaning channel.now) places.now result answers.old answers.new }
+    ensures own { OnOk result (OwnWindows operations worthOf (C.meaning channel.now) places.now) }
 {
     let sizes = sizes::sizes_of(channel);
     let lengths = checks::Lengths {

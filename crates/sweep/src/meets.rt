@@ -22,15 +22,15 @@ fn meet<C: Channel, J: Joining>(
     place: usize,
     symbol: usize,
 ) -> J
-    requires sized { Sized (meaning channel.now) sizes.symbols sizes.states }
+    requires sized { Sized (C.meaning channel.now) sizes.symbols sizes.states }
     requires few { length places.now ≤ 128 }
     requires place { place < length places.now }
     requires symbol { symbol < sizes.symbols }
     requires forward_room { (length places.now + 1) * sizes.states ≤ length forward.now }
     requires backward_room { (length places.now + 1) * sizes.states ≤ length backward.now }
-    requires fronts { Columns operations.none forward.now sizes.states (length places.now + 1) (forward_element_of (full_trellis operations worthOf (meaning channel.now) places.now)) }
-    requires backs { Columns operations.none backward.now sizes.states (length places.now + 1) (backward_element_of (full_trellis operations worthOf (meaning channel.now) places.now) (length places.now)) }
-    ensures { result ≡ answer_element (full_trellis operations worthOf (meaning channel.now) places.now) (length places.now) place symbol }
+    requires fronts { Columns operations.none forward.now sizes.states (length places.now + 1) (forward_element_of (full_trellis operations worthOf (C.meaning channel.now) places.now)) }
+    requires backs { Columns operations.none backward.now sizes.states (length places.now + 1) (backward_element_of (full_trellis operations worthOf (C.meaning channel.now) places.now) (length places.now)) }
+    ensures { result ≡ answer_element (full_trellis operations worthOf (C.meaning channel.now) places.now) (length places.now) place symbol }
 {
     let mut ways = J::none();
     for state in 0..sizes.states {
@@ -52,15 +52,15 @@ pub(crate) fn fill_answers<C: Channel, J: Joining>(
     backward: &[J],
     answers: &mut [J],
 )
-    requires sized { Sized (meaning channel.now) sizes.symbols sizes.states }
+    requires sized { Sized (C.meaning channel.now) sizes.symbols sizes.states }
     requires few { length places.now ≤ 128 }
     requires room { length places.now * sizes.symbols ≤ length answers.old }
     requires forward_room { (length places.now + 1) * sizes.states ≤ length forward.now }
     requires backward_room { (length places.now + 1) * sizes.states ≤ length backward.now }
-    requires fronts { Columns operations.none forward.now sizes.states (length places.now + 1) (forward_element_of (full_trellis operations worthOf (meaning channel.now) places.now)) }
-    requires backs { Columns operations.none backward.now sizes.states (length places.now + 1) (backward_element_of (full_trellis operations worthOf (meaning channel.now) places.now) (length places.now)) }
-    ensures filled { Filled operations.none answers.old answers.new (length places.now) sizes.symbols (answer_element (full_trellis operations worthOf (meaning channel.now) places.now) (length places.now)) }
-    ensures own { OwnWindows operations worthOf (meaning channel.now) places.now }
+    requires fronts { Columns operations.none forward.now sizes.states (length places.now + 1) (forward_element_of (full_trellis operations worthOf (C.meaning channel.now) places.now)) }
+    requires backs { Columns operations.none backward.now sizes.states (length places.now + 1) (backward_element_of (full_trellis operations worthOf (C.meaning channel.now) places.now) (length places.now)) }
+    ensures filled { Filled operations.none answers.old answers.new (length places.now) sizes.symbols (answer_element (full_trellis operations worthOf (C.meaning channel.now) places.now) (length places.now)) }
+    ensures own { OwnWindows operations worthOf (C.meaning channel.now) places.now }
 {
     for index in 0..answer_elements(places.len(), sizes) {
         let place = index / sizes.symbols;

@@ -14,7 +14,7 @@ pub(crate) struct Sizes {
 
 /// The sizes of a channel.
 pub(crate) fn sizes_of<C: Channel>(channel: &C) -> Sizes
-    ensures { Sized (meaning channel.now) result.symbols result.states }
+    ensures { Sized (C.meaning channel.now) result.symbols result.states }
 {
     Sizes {
         symbols: C::alphabet(),

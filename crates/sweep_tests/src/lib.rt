@@ -1,5 +1,6 @@
 //! Tests of the sweep and of pinning at the edges of their rules, and a joining whose follow is not commutative.
 #![tactic(auto)]
+
 mod firsts;
 #[cfg(test)]
 mod pin_tests;

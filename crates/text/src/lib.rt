@@ -1,5 +1,6 @@
 //! Burst text: its lines, what is wrong with one, and the kind of its channel.
 #![tactic(auto)]
+
 mod fault;
 mod find;
 mod kind;

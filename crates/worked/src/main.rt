@@ -1,5 +1,6 @@
 //! Settles a small burst, received through an echo of two taps, and prints what is read of it.
 #![tactic(auto)]
+
 use anyhow::anyhow;
 use burst::{Place, Priors, Refusal};
 use channel::{Channel, Sample};

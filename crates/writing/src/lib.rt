@@ -1,5 +1,6 @@
 //! Writing the lines of a burst text.
 #![tactic(auto)]
+
 mod channels;
 mod draft;
 mod inscribed;

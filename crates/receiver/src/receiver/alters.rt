@@ -14,16 +14,16 @@ use channel::{Channel, Sample};
 impl<C: Channel> Receiver<C> {
     // Whether the depth is the channel's whole memory.
     fn at_full_depth(&self) -> bool
-        ensures tells { TellsFull (meaning self.now.channel) self.now.burst result }
+        ensures tells { TellsFull (C.meaning self.now.channel) self.now.burst result }
     {
         self.burst.depth == self.channel.memory()
     }
 
     // Whether place k can have another sample.
     fn check_sample(&self, k: usize, sample: Sample) -> Result<(), Refusal>
-        ensures answer { refused_by result ≡ retake_refusal (meaning self.now.channel) self.now.burst.count k sample }
+        ensures answer { refused_by result ≡ retake_refusal (C.meaning self.now.channel) self.now.burst.count k sample }
         ensures held { Passed result (k < self.now.burst.count) }
-        ensures taken { Passed result (taken (meaning self.now.channel) sample ≡ true) }
+        ensures taken { Passed result (taken (C.meaning self.now.channel) sample ≡ true) }
     {
         if !self.channel.takes(sample) {
             return Err(Refusal::NotTaken);
@@ -36,16 +36,16 @@ impl<C: Channel> Receiver<C> {
 
     // Whether the priors keep their rule for the channel's symbols.
     fn takes_priors(&self, priors: Priors) -> bool
-        ensures { result ≡ priors_allowed (meaning self.now.channel).symbols priors }
+        ensures { result ≡ priors_allowed (C.meaning self.now.channel).symbols priors }
     {
         priors.allowed(C::alphabet())
     }
 
     // Whether place k can have other priors.
     fn check_priors(&self, k: usize, priors: Priors) -> Result<(), Refusal>
-        ensures answer { refused_by result ≡ reweigh_refusal (meaning self.now.channel) self.now.burst.count k priors }
+        ensures answer { refused_by result ≡ reweigh_refusal (C.meaning self.now.channel) self.now.burst.count k priors }
         ensures held { Passed result (k < self.now.burst.count) }
-        ensures allowed { Passed result (priors_allowed (meaning self.now.channel).symbols priors ≡ true) }
+        ensures allowed { Passed result (priors_allowed (C.meaning self.now.channel).symbols priors ≡ true) }
     {
         if !self.takes_priors(priors) {
             return Err(Refusal::BadPriors);
@@ -59,9 +59,9 @@ impl<C: Channel> Receiver<C> {
     /// Changes the sample of a place and keeps its priors, or refuses and changes nothing.
     pub fn retake(&mut self, place: usize, sample: Sample) -> Result<(), Refusal>
         ensures channel { self.new.channel ≡ self.old.channel }
-        ensures answer { refused_by result ≡ retake_refusal (meaning self.old.channel) self.old.burst.count place sample }
-        ensures stands { Then result self.old.burst self.new.burst (Altered self.old.burst self.new.burst (retaken (full_depth (meaning self.old.channel) self.old.burst.depth) (standing self.old.burst) place sample)) }
-        ensures sound { Sound (meaning self.old.channel) self.old.burst → Sound (meaning self.old.channel) self.new.burst }
+        ensures answer { refused_by result ≡ retake_refusal (C.meaning self.old.channel) self.old.burst.count place sample }
+        ensures stands { Then result self.old.burst self.new.burst (Altered self.old.burst self.new.burst (retaken (full_depth (C.meaning self.old.channel) self.old.burst.depth) (standing self.old.burst) place sample)) }
+        ensures sound { Sound (C.meaning self.old.channel) self.old.burst → Sound (C.meaning self.old.channel) self.new.burst }
     {
         self.check_sample(place, sample)?;
         let full = self.at_full_depth();
@@ -72,9 +72,9 @@ impl<C: Channel> Receiver<C> {
     /// Changes the priors of a place and keeps its sample, or refuses and changes nothing.
     pub fn reweigh(&mut self, place: usize, priors: Priors) -> Result<(), Refusal>
         ensures channel { self.new.channel ≡ self.old.channel }
-        ensures answer { refused_by result ≡ reweigh_refusal (meaning self.old.channel) self.old.burst.count place priors }
-        ensures stands { Then result self.old.burst self.new.burst (Altered self.old.burst self.new.burst (reweighed (full_depth (meaning self.old.channel) self.old.burst.depth) (standing self.old.burst) place priors)) }
-        ensures sound { Sound (meaning self.old.channel) self.old.burst → Sound (meaning self.old.channel) self.new.burst }
+        ensures answer { refused_by result ≡ reweigh_refusal (C.meaning self.old.channel) self.old.burst.count place priors }
+        ensures stands { Then result self.old.burst self.new.burst (Altered self.old.burst self.new.burst (reweighed (full_depth (C.meaning self.old.channel) self.old.burst.depth) (standing self.old.burst) place priors)) }
+        ensures sound { Sound (C.meaning self.old.channel) self.old.burst → Sound (C.meaning self.old.channel) self.new.burst }
     {
         self.check_priors(place, priors)?;
         let full = self.at_full_depth();
@@ -98,7 +98,7 @@ impl<C: Channel> Receiver<C> {
         ensures channel { self.new.channel ≡ self.old.channel }
         ensures answer { refused_by result ≡ cut_refusal self.old.burst.count n }
         ensures stands { Then result self.old.burst self.new.burst (Shortened self.old.burst self.new.burst n) }
-        ensures sound { Sound (meaning self.old.channel) self.old.burst → Sound (meaning self.old.channel) self.new.burst }
+        ensures sound { Sound (C.meaning self.old.channel) self.old.burst → Sound (C.meaning self.old.channel) self.new.burst }
     {
         self.check_cut(n)?;
         self.burst.cut(n);

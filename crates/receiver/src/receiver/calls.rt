@@ -19,8 +19,8 @@ impl<C: Channel> Receiver<C> {
     /// A receiver of a channel, without places, at the largest allowed depth.
     pub fn new(channel: C) -> Receiver<C>
         ensures channel { result.channel ≡ channel }
-        ensures stands { standing result.burst ≡ new_standing (meaning channel) }
-        ensures sound { Sound (meaning channel) result.burst }
+        ensures stands { standing result.burst ≡ new_standing (C.meaning channel) }
+        ensures sound { Sound (C.meaning channel) result.burst }
     {
         let (depth, shape) = Shape::deepest(&channel);
         Receiver {
@@ -31,8 +31,8 @@ impl<C: Channel> Receiver<C> {
 
     // Whether a place can be appended.
     fn check_place(&self, place: &Place) -> Result<(), Refusal>
-        ensures answer { refused_by result ≡ add_refusal (meaning self.now.channel) self.now.burst.count place.now }
-        ensures fits { Passed result (HasRoom (meaning self.now.channel) self.now.burst place.now) }
+        ensures answer { refused_by result ≡ add_refusal (C.meaning self.now.channel) self.now.burst.count place.now }
+        ensures fits { Passed result (HasRoom (C.meaning self.now.channel) self.now.burst place.now) }
     {
         if MOST <= self.burst.count {
             return Err(Refusal::TooMany);
@@ -49,9 +49,9 @@ impl<C: Channel> Receiver<C> {
     /// Appends a place, or refuses and changes nothing.
     pub fn add(&mut self, place: Place) -> Result<(), Refusal>
         ensures channel { self.new.channel ≡ self.old.channel }
-        ensures answer { refused_by result ≡ add_refusal (meaning self.old.channel) self.old.burst.count place }
+        ensures answer { refused_by result ≡ add_refusal (C.meaning self.old.channel) self.old.burst.count place }
         ensures stands { Then result self.old.burst self.new.burst (Added self.old.burst self.new.burst place) }
-        ensures sound { Sound (meaning self.old.channel) self.old.burst → Sound (meaning self.old.channel) self.new.burst }
+        ensures sound { Sound (C.meaning self.old.channel) self.old.burst → Sound (C.meaning self.old.channel) self.new.burst }
     {
         self.check_place(&place)?;
         self.burst.add(place);
@@ -61,10 +61,10 @@ impl<C: Channel> Receiver<C> {
     /// Sets the depth, or refuses and changes nothing.
     pub fn set_depth(&mut self, depth: usize) -> Result<(), Refusal>
         ensures channel { self.new.channel ≡ self.old.channel }
-        ensures answer { refused_by result ≡ depth_refusal (meaning self.old.channel) depth }
+        ensures answer { refused_by result ≡ depth_refusal (C.meaning self.old.channel) depth }
         ensures stands { Then result self.old.burst self.new.burst (Deepened self.old.burst self.new.burst depth) }
-        ensures shaped { Answers result (λ _. Shaped (meaning self.old.channel) self.new.burst) }
-        ensures sound { Sound (meaning self.old.channel) self.old.burst → Sound (meaning self.old.channel) self.new.burst }
+        ensures shaped { Answers result (λ _. Shaped (C.meaning self.old.channel) self.new.burst) }
+        ensures sound { Sound (C.meaning self.old.channel) self.old.burst → Sound (C.meaning self.old.channel) self.new.burst }
     {
         let shape = Shape::new(&self.channel, depth)?;
         self.burst.deepen(depth, shape);
@@ -76,8 +76,8 @@ impl<C: Channel> Receiver<C> {
         ensures channel { self.new.channel ≡ self.old.channel }
         ensures count { result.columns ≡ self.old.burst.count - self.old.burst.marks.forward + self.old.burst.marks.backward }
         ensures left { Left self.old.burst self.new.burst }
-        ensures worked { Shaped (meaning self.old.channel) self.old.burst → Worked (meaning self.old.channel) self.old.burst self.new.burst result.best }
-        ensures sound { Sound (meaning self.old.channel) self.old.burst → SettledSound (meaning self.old.channel) self.old.burst self.new.burst result.best }
+        ensures worked { Shaped (C.meaning self.old.channel) self.old.burst → Worked (C.meaning self.old.channel) self.old.burst self.new.burst result.best }
+        ensures sound { Sound (C.meaning self.old.channel) self.old.burst → SettledSound (C.meaning self.old.channel) self.old.burst self.new.burst result.best }
     {
         self.burst.settle(&self.channel)
     }

@@ -25,8 +25,8 @@ impl<C: Channel> Receiver<C> {
 
     // Whether the cost of a value at a place can be read.
     fn check_value(&self, place: usize, value: usize) -> Result<(), Refusal>
-        ensures answer { refused_by result ≡ cost_refusal (meaning self.now.channel) self.now.burst.count self.now.burst.marks place value }
-        ensures passed { Passed result (Readable (meaning self.now.channel) self.now.burst place value) }
+        ensures answer { refused_by result ≡ cost_refusal (C.meaning self.now.channel) self.now.burst.count self.now.burst.marks place value }
+        ensures passed { Passed result (Readable (C.meaning self.now.channel) self.now.burst place value) }
     {
         if self.burst.count <= place {
             return Err(Refusal::NoPlace);
@@ -42,8 +42,8 @@ impl<C: Channel> Receiver<C> {
 
     /// The cost of a value at a place.
     pub fn cost(&self, place: usize, value: usize) -> Result<Cost, Refusal>
-        ensures answer { refused_by result ≡ cost_refusal (meaning self.now.channel) self.now.burst.count self.now.burst.marks place value }
-        ensures value { Sound (meaning self.now.channel) self.now.burst → Answers result (λ c. c ≡ value_cost (meaning self.now.channel) self.now.burst.depth (places_of self.now.burst) place value) }
+        ensures answer { refused_by result ≡ cost_refusal (C.meaning self.now.channel) self.now.burst.count self.now.burst.marks place value }
+        ensures value { Sound (C.meaning self.now.channel) self.now.burst → Answers result (λ c. c ≡ value_cost (C.meaning self.now.channel) self.now.burst.depth (places_of self.now.burst) place value) }
     {
         self.check_value(place, value)?;
         Ok(self.burst.cost(&self.channel, place, value))
@@ -51,8 +51,8 @@ impl<C: Channel> Receiver<C> {
 
     /// The lean of a value at a place: the cost of 0 minus the cost of the value.
     pub fn lean(&self, place: usize, value: usize) -> Result<Lean, Refusal>
-        ensures answer { refused_by result ≡ cost_refusal (meaning self.now.channel) self.now.burst.count self.now.burst.marks place value }
-        ensures value { Sound (meaning self.now.channel) self.now.burst → Answers result (λ l. l ≡ lean_of (value_cost (meaning self.now.channel) self.now.burst.depth (places_of self.now.burst) place 0) (value_cost (meaning self.now.channel) self.now.burst.depth (places_of self.now.burst) place value)) }
+        ensures answer { refused_by result ≡ cost_refusal (C.meaning self.now.channel) self.now.burst.count self.now.burst.marks place value }
+        ensures value { Sound (C.meaning self.now.channel) self.now.burst → Answers result (λ l. l ≡ lean_of (value_cost (C.meaning self.now.channel) self.now.burst.depth (places_of self.now.burst) place 0) (value_cost (C.meaning self.now.channel) self.now.burst.depth (places_of self.now.burst) place value)) }
     {
         self.check_value(place, value)?;
         let zero = self.burst.cost(&self.channel, place, 0);
@@ -61,8 +61,8 @@ impl<C: Channel> Receiver<C> {
 
     /// The symbol that the shown sequence has at a place.
     pub fn symbol(&self, place: usize) -> Result<u8, Refusal>
-        ensures answer { Sound (meaning self.now.channel) self.now.burst → refused_by result ≡ symbol_refusal self.now.burst.count self.now.burst.marks (best (meaning self.now.channel) self.now.burst.depth (places_of self.now.burst)) place }
-        ensures value { Sound (meaning self.now.channel) self.now.burst → Answers result (λ a. a ≡ slice_index (shown (meaning self.now.channel) self.now.burst.depth (places_of self.now.burst)) place) }
+        ensures answer { Sound (C.meaning self.now.channel) self.now.burst → refused_by result ≡ symbol_refusal self.now.burst.count self.now.burst.marks (best (C.meaning self.now.channel) self.now.burst.depth (places_of self.now.burst)) place }
+        ensures value { Sound (C.meaning self.now.channel) self.now.burst → Answers result (λ a. a ≡ slice_index (shown (C.meaning self.now.channel) self.now.burst.depth (places_of self.now.burst)) place) }
     {
         if self.burst.count <= place {
             return Err(Refusal::NoPlace);
@@ -80,9 +80,9 @@ impl<C: Channel> Receiver<C> {
 
     /// Writes the shown sequence at the front of a list, and leaves the rest of it.
     pub fn shown(&self, list: &mut [u8]) -> Result<(), Refusal>
-        ensures answer { Sound (meaning self.now.channel) self.now.burst → refused_by result ≡ shown_refusal self.now.burst.count self.now.burst.marks (best (meaning self.now.channel) self.now.burst.depth (places_of self.now.burst)) (length list.old) }
+        ensures answer { Sound (C.meaning self.now.channel) self.now.burst → refused_by result ≡ shown_refusal self.now.burst.count self.now.burst.marks (best (C.meaning self.now.channel) self.now.burst.depth (places_of self.now.burst)) (length list.old) }
         ensures leaves { Leaves result self.now.burst.count list.old list.new }
-        ensures shown { Sound (meaning self.now.channel) self.now.burst → Answers result (λ _. Shows (meaning self.now.channel) self.now.burst list.old list.new) }
+        ensures shown { Sound (C.meaning self.now.channel) self.now.burst → Answers result (λ _. Shows (C.meaning self.now.channel) self.now.burst list.old list.new) }
         ensures law { Answers result (λ _. ShownIsBest) }
     {
         if self.is_stale() {

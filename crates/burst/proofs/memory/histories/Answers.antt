@@ -7,8 +7,8 @@ use Rattle.burst.proofs.memory.histories.Goals as goal
 power : (m : Meaning) (symbols memory : ℕ) → symbols ≡ m.symbols → memory ≡ m.memory → symbols ^ (memory - 1) ≡ histories m
 power m symbols memory s l = ap₂ (λ (a b : ℕ). a ^ (b - 1)) s l
 
-pub overflow-cast-memory : goal.overflow-cast-memory
-overflow-cast-memory g c =
+pub overflow_cast-memory : goal.overflow_cast-memory
+overflow_cast-memory g c =
     let lawful = g.met.C.Channel.lawful c.args.channel.now in
     omega (arith, short_memory _ lawful)
 

@@ -4,18 +4,18 @@ use Rattle.std.proofs.lemmas.Int.{ints}
 use Rattle.numerals.proofs.Reading.{minus_number, minus_none, no_minus_zero, after_minus}
 use Rattle.numerals.proofs.read.negative.Goals as goal
 
-pub returns-in-err-n : goal.returns-in-err-n
-returns-in-err-n c =
-    let p = err_from_is_err_and c.from-residual.result c.from-residual.ensures.1 in
-    rw p.1 (minus_none _ _ (after_minus _ _ c.requires.some c.requires.minus c.requires.rest) (λ n h q e. c.in-err-n.ensures n h e))
+pub returns-in_err-n : goal.returns-in_err-n
+returns-in_err-n c =
+    let p = err_from_is_err_and c.from_residual.result c.from_residual.ensures.1 in
+    rw p.1 (minus_none _ _ (after_minus _ _ c.requires.some c.requires.minus c.requires.rest) (λ n h q e. c.in_err-n.ensures n h e))
 
 pub returns-then-n-eq0 : goal.returns-then-n-eq0
 returns-then-n-eq0 c =
-    minus_none _ _ (after_minus _ _ c.requires.some c.requires.minus c.requires.rest) (no_minus_zero _ (c.in-ok-n.ensures.0 ∙ ap decimal c.if-n-eq0.true))
+    minus_none _ _ (after_minus _ _ c.requires.some c.requires.minus c.requires.rest) (no_minus_zero _ (c.in_ok-n.ensures.0 ∙ ap decimal c.if-n-eq0.true))
 
 pub returns : goal.returns
 returns c =
-    let n = c.in-ok-n.n in
-    let small = c.in-ok-n.ensures.1 in
+    let n = c.in_ok-n.n in
+    let small = c.in_ok-n.ensures.1 in
     let is : to_z w32 (of_z w32 (pos 0 -ℤ to_z w32 n)) ≡ neg_ℤ (pos n) = omega (arith, ints) in
-    simp is (minus_number _ _ n (after_minus _ _ c.requires.some c.requires.minus c.requires.rest) c.in-ok-n.ensures.0 (search rules) small)
+    simp is (minus_number _ _ n (after_minus _ _ c.requires.some c.requires.minus c.requires.rest) c.in_ok-n.ensures.0 (search rules) small)

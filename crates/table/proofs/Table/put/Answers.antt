@@ -14,39 +14,32 @@ fit memory count is = let ok = allowed memory count is in omega (arith, ok.whole
 same : (memory : ℤ) (r : ℕ) → SFits w32 memory → r ≡ nat_abs (to_z w32 (of_z w32 memory)) → r ≡ nat_abs memory
 same memory r fits is = is ∙ ap nat_abs (to_z-of_z w32 memory fits)
 
-pub slice-bounds-copy-from-slice-end : goal.slice-bounds-copy-from-slice-end
-slice-bounds-copy-from-slice-end c = let few = fit c.args.memory (length c.args.entries.now) c.requires.size in search rules
+pub slice_bounds-copy_from_slice-end : goal.slice_bounds-copy_from_slice-end
+slice_bounds-copy_from_slice-end c = let few = fit c.args.memory (length c.args.entries.now) c.requires.size in search rules
 
 front : (written entries rest : List Entry) → written ≡ entries → take (length entries) (written ++ rest) ≡ entries
 front written entries rest is = take_at written rest (length entries) (ap length is) ∙ is
 
-pub invariant-of-self : goal.invariant-of-self
-invariant-of-self c =
+pub invariant_of-self : goal.invariant_of-self
+invariant_of-self c =
     let ok = allowed c.args.memory (length c.args.entries.now) c.requires.size in
-    let is = same c.args.memory c.unsigned-abs.result c.ranges.memory c.unsigned-abs.ensures.value in
-    let few = fit c.args.memory (length c.args.entries.now) c.requires.size in (
-      omega arith,
-      (
-        omega arith,
-        (
-          ok.whole ∙ ap (λ (m : ℕ). 4 ^ m) (sym is),
-          (
-            few,
-            (
-              search (rules, places),
-              (ap each_in_range (front _ c.args.entries.now _ c.copy-from-slice.ensures.after) ∙ c.requires.ranged, tt),
-            ),
-          ),
-        ),
-      ),
-    )
+    let is = same c.args.memory c.unsigned_abs.result c.ranges.memory c.unsigned_abs.ensures.value in
+    let few = fit c.args.memory (length c.args.entries.now) c.requires.size in
+    record {
+      some = omega arith;
+      few = omega arith;
+      whole = ok.whole ∙ ap (λ (m : ℕ). 4 ^ m) (sym is);
+      fits = few;
+      room = search (rules, places);
+      ranged = ap each_in_range (front _ c.args.entries.now _ c.copy_from_slice.ensures.after) ∙ c.requires.ranged;
+    }
 
 pub returns : goal.returns
 returns c =
     let ok = allowed c.args.memory (length c.args.entries.now) c.requires.size in
-    let is = same c.args.memory c.unsigned-abs.result c.ranges.memory c.unsigned-abs.ensures.value in
+    let is = same c.args.memory c.unsigned_abs.result c.ranges.memory c.unsigned_abs.ensures.value in
     record {
       memory = ap pos is ∙ ok.sign;
-      entries = front _ c.args.entries.now _ c.copy-from-slice.ensures.after;
+      entries = front _ c.args.entries.now _ c.copy_from_slice.ensures.after;
       noise = refl;
     }

@@ -12,11 +12,11 @@ step entries i d b r within is left =
     ap (λ (x : Bool). x && each_in_range (drop (i + 1) entries)) is
     ∙ sym (at_drop_more each_in_range entries i d within) ∙ left
 
-pub returns-then-not-in-range : goal.returns-then-not-in-range
-returns-then-not-in-range c = step _ _ _ false _ c.loop-entry-test.true c.if-not-in-range.ensures c.loop-entry.invariant
+pub returns-then-not-in_range : goal.returns-then-not-in_range
+returns-then-not-in_range c = step _ _ _ false _ c.loop-entry-test.true c.if-not-in_range.ensures c.loop-entry.invariant
 
 pub loop-entry-preserved : goal.loop-entry-preserved
-loop-entry-preserved c = step _ _ _ true _ c.loop-entry-test.true c.if-not-in-range.ensures c.loop-entry.invariant
+loop-entry-preserved c = step _ _ _ true _ c.loop-entry-test.true c.if-not-in_range.ensures c.loop-entry.invariant
 
 pub returns : goal.returns
 returns c =

@@ -6,7 +6,7 @@ use Rattle.table.proofs.load.size_allowed.Goals as goal
 -- Any memory of at most 31 would do.
 pub pow-requires : goal.pow-requires
 pow-requires c =
-    let few : c.unsigned-abs.result ≤ 31 = omega (arith, ints) in
+    let few : c.unsigned_abs.result ≤ 31 = omega (arith, ints) in
     let some : 0 < 4 = omega arith in
-    let power : 4 ^ c.unsigned-abs.result ≤ 4 ^ 31 = pow-le-pow_right {n = 4} some {i = c.unsigned-abs.result} {j = 31} few in
+    let power : 4 ^ c.unsigned_abs.result ≤ 4 ^ 31 = pow-le-pow_right {n = 4} some {i = c.unsigned_abs.result} {j = 31} few in
     omega arith

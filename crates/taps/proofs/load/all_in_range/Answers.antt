@@ -13,15 +13,15 @@ step taps i b r within fits is left =
     ap (λ (x : Bool). x && each_in_range (drop (i + 1) taps)) (is ∙ ap tap_in_range same)
     ∙ sym (at_drop_more each_in_range taps i (pos 0) within) ∙ left
 
-pub returns-then-not-in-range : goal.returns-then-not-in-range
-returns-then-not-in-range c =
+pub returns-then-not-in_range : goal.returns-then-not-in_range
+returns-then-not-in_range c =
     let fits : SFits w16 (get_or c.args.taps.now c.loop-tap.tap-index (pos 0)) = search rules in
-    step _ _ false _ c.loop-tap-test.true fits (sym c.if-not-in-range.true ∙ c.in-range.ensures) c.loop-tap.invariant
+    step _ _ false _ c.loop-tap-test.true fits (sym c.if-not-in_range.true ∙ c.in_range.ensures) c.loop-tap.invariant
 
 pub loop-tap-preserved : goal.loop-tap-preserved
 loop-tap-preserved c =
     let fits : SFits w16 (get_or c.args.taps.now c.loop-tap.tap-index (pos 0)) = search rules in
-    step _ _ true _ c.loop-tap-test.true fits (sym c.if-not-in-range.false ∙ c.in-range.ensures) c.loop-tap.invariant
+    step _ _ true _ c.loop-tap-test.true fits (sym c.if-not-in_range.false ∙ c.in_range.ensures) c.loop-tap.invariant
 
 pub returns : goal.returns
 returns c = sym (at_drop_all each_in_range c.args.taps.now c.loop-tap.tap-index c.loop-tap-test.false) ∙ c.loop-tap.invariant

@@ -4,6 +4,6 @@ use Rattle.taps.proofs.load.held.Goals as goal
 
 pub returns : goal.returns
 returns c = record {
-  front = take_at _ _ (length c.args.taps.now) (ap length c.copy-from-slice.ensures.after) ∙ c.copy-from-slice.ensures.after;
+  front = take_at _ _ (length c.args.taps.now) (ap length c.copy_from_slice.ensures.after) ∙ c.copy_from_slice.ensures.after;
   room = search (rules, places);
 }

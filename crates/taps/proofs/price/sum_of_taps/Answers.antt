@@ -23,10 +23,10 @@ pub loop-i-preserved : goal.loop-i-preserved
 loop-i-preserved c =
     let tap : ℤ = get_or c.args.taps.now c.loop-i.i (pos 0) in
     let fits : SFits w16 tap = search rules in
-    let share : c.times-symbol-sum.result ≡ symbol_times (to_z w16 (of_z w16 tap)) (symbol_at 2 c.args.window c.loop-i.i)
-    = c.times-symbol-sum.ensures.value ∙ ap (λ (a : ℕ). symbol_times (to_z w16 (of_z w16 tap)) a) c.symbol-at.ensures in
-    step c.args.taps.now c.loop-i.i c.args.window _ c.times-symbol-sum.result _ c.loop-i-test.true (omega arith) fits
-    c.loop-i.invariant.0 c.times-symbol-sum.ensures.small share c.loop-i.invariant.1
+    let share : c.times_symbol-sum.result ≡ symbol_times (to_z w16 (of_z w16 tap)) (symbol_at 2 c.args.window c.loop-i.i)
+    = c.times_symbol-sum.ensures.value ∙ ap (λ (a : ℕ). symbol_times (to_z w16 (of_z w16 tap)) a) c.symbol_at.ensures in
+    step c.args.taps.now c.loop-i.i c.args.window _ c.times_symbol-sum.result _ c.loop-i-test.true (omega arith) fits
+    c.loop-i.invariant.0 c.times_symbol-sum.ensures.small share c.loop-i.invariant.1
 
 pub returns : goal.returns
 returns c =
