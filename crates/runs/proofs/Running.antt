@@ -28,9 +28,6 @@ pub bytes_append : (m : Meaning) (xs ys : List Call) (s : Standing) (bytes : Lis
 bytes_append m [] ys s bytes = refl
 bytes_append m (x ∷ xs) ys s bytes = bytes_append m xs ys (after m x s) (written m x s bytes)
 
-pub ran_none : (m : Meaning) (b : Burst) → Sound m b → Ran m [] b b
-ran_none m b sound = record { sound = sound; stands = refl }
-
 -- a run and one call more
 pub ran_more : (m : Meaning) (calls : List Call) (call : Call) (b b₁ b₂ : Burst) → Ran m calls b b₁ → Sound m b₂ → standing b₂ ≡ after m call (standing b₁) → Ran m (calls ++ (call ∷ [])) b b₂
 ran_more m calls call b b₁ b₂ ran sound stands = record {
@@ -85,6 +82,3 @@ hears_next m calls i call is lt b b₁ b₂ bytes bytes₁ bytes₂ said said' r
           ∙ sym (answers_append m before (call ∷ []) (standing b) bytes);
       writes = obeyed.writes ∙ ap₂ (written m call) hears.stands hears.writes ∙ sym (bytes_append m before (call ∷ []) (standing b) bytes);
     })
-
-pub hears_none : (m : Meaning) (b : Burst) (bytes : List ℕ) → Sound m b → Hears m [] b b bytes bytes []
-hears_none m b bytes sound = record { sound = sound; stands = refl; answers = refl; writes = refl }

@@ -32,19 +32,16 @@ loop-i-preserved g c =
           c.obey-in-loop-i.result (said_more (λ (x : Heard). x.other) heard i h in-heard) (inv.3 sound) (says' (inv.3 sound).sound),
     )
 
-pub returns : goal.returns
-returns g c =
+pub returns-clause-one : goal.returns-clause-one
+returns-clause-one g c sound =
     let m = g.C.Channel.meaning c.args.one.now.channel in
-    let m' = g.D.Channel.meaning c.args.other.now.channel in
-    let list = c.args.list.now in
-    let heard = c.loop-i.heard in
     let done : c.loop-i.i ≡ c.min-n.result = le_antisymm c.loop-i.auto.i-end c.loop-i-test.false in
-    record {
-      asked = c.min-n.ensures;
-      one = λ sound.
-          subst (λ (n : ℕ). Hears m (take n list) c.args.one.now.burst c.loop-i.one.burst c.args.bytes.now c.loop-i.bytes (one_said n heard)) done
-          (c.loop-i.invariant.2 sound);
-      other = λ sound.
-          subst (λ (n : ℕ). Hears m' (take n list) c.args.other.now.burst c.loop-i.other.burst c.args.other_bytes.now c.loop-i.other_bytes (other_said n heard)) done
-          (c.loop-i.invariant.3 sound);
-    }
+    subst (λ (n : ℕ). Hears m (take n c.args.list.now) c.args.one.now.burst c.loop-i.one.burst c.args.bytes.now c.loop-i.bytes (one_said n c.loop-i.heard)) done
+    (c.loop-i.invariant.2 sound)
+
+pub returns-clause-other : goal.returns-clause-other
+returns-clause-other g c sound =
+    let m = g.D.Channel.meaning c.args.other.now.channel in
+    let done : c.loop-i.i ≡ c.min-n.result = le_antisymm c.loop-i.auto.i-end c.loop-i-test.false in
+    subst (λ (n : ℕ). Hears m (take n c.args.list.now) c.args.other.now.burst c.loop-i.other.burst c.args.other_bytes.now c.loop-i.other_bytes (other_said n c.loop-i.heard)) done
+    (c.loop-i.invariant.3 sound)

@@ -1,4 +1,4 @@
-use Rattle.std.proofs.Common.{◌∙◌, take_all}
+use Rattle.std.proofs.Common.{◌∙◌}
 use Rattle.runs.proofs.Running.{added_next}
 use Rattle.runs.proofs.run.add_all.Goals as goal
 
@@ -13,8 +13,3 @@ loop-place-preserved g c =
           added_next m c.args.places.now c.loop-place.place-index c.place-item.result c.place-item.is c.loop-place-test.true b
           c.loop-place.receiver.burst c.add.new.receiver.burst c.add.result (inv.1 sound) (said (inv.1 sound).sound),
     )
-
-pub returns : goal.returns
-returns g c =
-    let whole = take_all c.loop-place.place-index c.args.places.now c.loop-place-test.false in
-    record { channel = c.loop-place.invariant.0; ran = simp whole at c.loop-place.invariant.1 }

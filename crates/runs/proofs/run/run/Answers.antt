@@ -1,4 +1,4 @@
-use Rattle.std.proofs.Common.{◌∙◌, take_all}
+use Rattle.std.proofs.Common.{◌∙◌}
 use Rattle.runs.proofs.Running.{ran_next}
 use Rattle.runs.proofs.run.run.Goals as goal
 
@@ -13,8 +13,3 @@ loop-call-preserved g c =
           ran_next m c.args.list.now c.loop-call.call-index c.call-item.result c.call-item.is c.loop-call-test.true b c.loop-call.receiver.burst
           c.ask.new.receiver.burst (inv.1 sound) (said (inv.1 sound).sound),
     )
-
-pub returns : goal.returns
-returns g c =
-    let whole = take_all c.loop-call.call-index c.args.list.now c.loop-call-test.false in
-    record { channel = c.loop-call.invariant.0; ran = simp whole at c.loop-call.invariant.1 }
