@@ -17,8 +17,8 @@ returns-then-column-places g c =
     let state : ℕ = c.args.index % c.args.sizes.states in
     c.unit.ensures ∙ sym (backward_end t sound (length places) state) ∙ ap (λ (k : ℕ). backward_element_of t (length places) k state) (sym c.if-column-places.true)
 
-pub lead-on-requires : goal.lead-on-requires
-lead-on-requires g c =
+pub lead_on-requires : goal.lead_on-requires
+lead_on-requires g c =
     let o = g.J.Joining.operations in
     let m = g.C.Channel.meaning c.args.channel.now in
     let places = c.args.places.now in

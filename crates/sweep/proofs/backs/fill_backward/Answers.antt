@@ -13,9 +13,9 @@ loop-index-preserved g c =
     let index : ℕ = c.loop-index.index - 1 in
     let below : index < count = omega arith in
     let within : index < length c.loop-index.backward = omega arith in (
-      holds_down o.none c.args.sizes.states (backward_element_of t (length places)) c.loop-index.backward index count c.backward-element-value.result within
-          c.backward-element-value.ensures (λ i low high. c.loop-index.invariant.0 i (omega arith) high),
-      keeps_set o.none c.args.backward.now c.loop-index.backward index count c.backward-element-value.result below c.loop-index.invariant.1,
+      holds_down o.none c.args.sizes.states (backward_element_of t (length places)) c.loop-index.backward index count c.backward_element-value.result within
+          c.backward_element-value.ensures (λ i low high. c.loop-index.invariant.0 i (omega arith) high),
+      keeps_set o.none c.args.backward.now c.loop-index.backward index count c.backward_element-value.result below c.loop-index.invariant.1,
     )
 
 pub returns : goal.returns

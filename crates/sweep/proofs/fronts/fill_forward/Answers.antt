@@ -12,8 +12,8 @@ loop-index-preserved g c =
     let count : ℕ = (length places + 1) * c.args.sizes.states in
     let below : c.loop-index.index < count = omega arith in
     let within : c.loop-index.index < length c.loop-index.forward = omega arith in (
-      holds_up o.none c.args.sizes.states (forward_element_of t) c.loop-index.forward c.loop-index.index c.forward-element-value.result within c.forward-element-value.ensures c.loop-index.invariant.0,
-      keeps_set o.none c.args.forward.now c.loop-index.forward c.loop-index.index count c.forward-element-value.result below c.loop-index.invariant.1,
+      holds_up o.none c.args.sizes.states (forward_element_of t) c.loop-index.forward c.loop-index.index c.forward_element-value.result within c.forward_element-value.ensures c.loop-index.invariant.0,
+      keeps_set o.none c.args.forward.now c.loop-index.forward c.loop-index.index count c.forward_element-value.result below c.loop-index.invariant.1,
     )
 
 pub returns : goal.returns

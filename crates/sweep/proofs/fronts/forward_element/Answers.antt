@@ -14,7 +14,7 @@ returns-then-column-eq0 g c =
     let t = full_trellis o g.J.Joining.worthOf m c.args.places.now in
     let sound = full_sound o g.J.Joining.worthOf m c.args.places.now g.met.J.Joining.laws (g.met.C.Channel.lawful c.args.channel.now) in
     let state : ℕ = c.args.index % c.args.sizes.states in
-    c.start-element.ensures ∙ sym (forward_start t sound state) ∙ ap (λ (k : ℕ). forward_element_of t k state) (sym c.if-column-eq0.true)
+    c.start_element.ensures ∙ sym (forward_start t sound state) ∙ ap (λ (k : ℕ). forward_element_of t k state) (sym c.if-column-eq0.true)
 
 pub gather-requires : goal.gather-requires
 gather-requires g c =

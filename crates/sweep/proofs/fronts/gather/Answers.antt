@@ -36,7 +36,7 @@ loop-oldest-preserved g c =
     c.requires.place c.index-places-column.is c.weight-step.ensures in
     let way = forward_way_lem t c.args.forward.now n symbols c.args.column c.args.state c.loop-oldest.oldest c.element-before.result c.weight-step.result
     c.requires.state c.loop-oldest-test.true c.requires.before c.element-before.ensures step in
-    c.join-way-ways.ensures ∙ joined o c.loop-oldest.oldest (forward_way t n symbols c.args.column c.args.state) _ _ c.loop-oldest.invariant way
+    c.join_way-ways.ensures ∙ joined o c.loop-oldest.oldest (forward_way t n symbols c.args.column c.args.state) _ _ c.loop-oldest.invariant way
 
 pub returns : goal.returns
 returns g c =

@@ -16,8 +16,8 @@ meet-value-requires g c =
       few = c.requires.few;
       place = is.column;
       symbol = is.state;
-      forward_room_lem = c.requires.forward_room_lem;
-      backward_room_lem = c.requires.backward_room_lem;
+      forward_room = c.requires.forward_room;
+      backward_room = c.requires.backward_room;
       fronts = c.requires.fronts;
       backs = c.requires.backs;
     }
