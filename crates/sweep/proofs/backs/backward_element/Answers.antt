@@ -17,23 +17,15 @@ returns-then-column-places g c =
     let state : ℕ = c.args.index % c.args.sizes.states in
     c.unit.ensures ∙ sym (backward_end t sound (length places) state) ∙ ap (λ (k : ℕ). backward_element_of t (length places) k state) (sym c.if-column-places.true)
 
-pub lead_on-requires : goal.lead_on-requires
-lead_on-requires g c =
+pub lead_on-requires-clause-after : goal.lead_on-requires-clause-after
+lead_on-requires-clause-after g c =
     let o = g.J.Joining.operations in
-    let m = g.C.Channel.meaning c.args.channel.now in
     let places = c.args.places.now in
-    let t = full_trellis o g.J.Joining.worthOf m places in
+    let t = full_trellis o g.J.Joining.worthOf (g.C.Channel.meaning c.args.channel.now) places in
     let n : ℕ = c.args.sizes.states in
     let column : ℕ = c.args.index / n in
     let is = parts c.args.index n (length places + 1) c.requires.sized.some_states c.requires.index in
     let before : column < length places = omega (arith, is.column, c.if-column-places.false) in
     let last = columns_le (column + 1 + 1) (length places + 1) n (omega arith) in
     let after : c.args.index + 1 ≤ (column + 1) * n = omega (arith, is.whole, is.state) in
-    record {
-      sized = c.requires.sized;
-      few = c.requires.few;
-      place = before;
-      state = is.state;
-      room = omega (arith, last, c.requires.room);
-      after = holds_column o.none n (backward_element_of t (length places)) c.args.backward.now (c.args.index + 1) ((length places + 1) * n) (column + 1) c.requires.after after last;
-    }
+    holds_column o.none n (backward_element_of t (length places)) c.args.backward.now (c.args.index + 1) ((length places + 1) * n) (column + 1) c.requires.after after last

@@ -1,8 +1,7 @@
-use Rattle.std.proofs.Common.{◌≡◌, ℕ, ◌+◌, ◌*◌, ◌/◌, ◌%◌, ◌<◌, sym, ap, ◌∙◌, ap₂, add-one, arith}
-use Rattle.std.proofs.lemmas.Nat.{mod_below}
+use Rattle.std.proofs.Common.{◌≡◌, ℕ, ◌+◌, ◌*◌, ◌/◌, ◌%◌, sym, ap, ◌∙◌, ap₂, add-one, arith}
 use Rattle.trellis.specs.Sequences.{join_below}
 use Rattle.trellis.specs.Elements.{forward_element_of}
-use Rattle.trellis.proofs.Elements.{forward_way, forward_step, state_lt}
+use Rattle.trellis.proofs.Elements.{forward_way, forward_step}
 use Rattle.trellis.proofs.Ways.{below_start, joined, forward_way_lem}
 use Rattle.burst.specs.Sequences.{full_trellis}
 use Rattle.sweep.proofs.Full.{full_sound, full_shifts, full_weight}
@@ -10,18 +9,6 @@ use Rattle.sweep.proofs.fronts.gather.Goals as goal
 
 pub loop-oldest-init : goal.loop-oldest-init
 loop-oldest-init g c = c.none-ways.ensures ∙ sym (below_start g.J.Joining.operations _)
-
-pub element-before-requires : goal.element-before-requires
-element-before-requires g c =
-    let from = state_lt c.args.sizes.states c.args.sizes.symbols c.args.state c.loop-oldest.oldest c.requires.state c.loop-oldest-test.true in
-    record { few = omega arith; small = c.requires.sized.few_states; state = from; room = c.requires.room }
-
-pub weight-step-requires : goal.weight-step-requires
-weight-step-requires g c =
-    let from = state_lt c.args.sizes.states c.args.sizes.symbols c.args.state c.loop-oldest.oldest c.requires.state c.loop-oldest-test.true in
-    let pair : ℕ = c.args.state + c.args.sizes.states * c.loop-oldest.oldest in
-    let symbol : pair % c.args.sizes.symbols < c.args.sizes.symbols = mod_below pair c.args.sizes.symbols (omega arith) in
-    record { sized = c.requires.sized; history = omega (arith, from, c.requires.sized.few_states); symbol = omega (arith, symbol, c.requires.sized.four_symbols) }
 
 pub loop-oldest-preserved : goal.loop-oldest-preserved
 loop-oldest-preserved g c =

@@ -4,22 +4,10 @@ use Rattle.trellis.proofs.Elements.{answer_way, answer_meets}
 use Rattle.trellis.proofs.Ways.{below_start, joined, answer_way_lem}
 use Rattle.burst.specs.Sequences.{full_trellis}
 use Rattle.sweep.proofs.Full.{full_sound, full_weight, full_next, next_lt}
-use Rattle.sweep.proofs.Indices.{columns_le}
 use Rattle.sweep.proofs.meets.meet.Goals as goal
 
 pub loop-state-init : goal.loop-state-init
 loop-state-init g c = c.none-ways.ensures ∙ sym (below_start g.J.Joining.operations _)
-
-pub element-before-requires : goal.element-before-requires
-element-before-requires g c =
-    let fewer = columns_le (c.args.place + 1) (length c.args.places.now + 1) c.args.sizes.states (omega arith) in
-    record { few = omega arith; small = c.requires.sized.few_states; state = c.loop-state-test.true; room = omega (arith, fewer, c.requires.forward_room) }
-
-pub element-after-requires : goal.element-after-requires
-element-after-requires g c =
-    let fewer = columns_le (c.args.place + 1 + 1) (length c.args.places.now + 1) c.args.sizes.states (omega arith) in
-    let within = next_lt _ c.args.sizes.states c.next_state-next.result c.requires.sized.some_states c.next_state-next.ensures in
-    record { few = omega arith; small = c.requires.sized.few_states; state = within; room = omega (arith, fewer, c.requires.backward_room) }
 
 pub loop-state-preserved : goal.loop-state-preserved
 loop-state-preserved g c =
