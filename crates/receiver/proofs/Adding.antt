@@ -1,20 +1,17 @@
 -- A burst with a place more keeps what it kept, and is as sound as it was.
-use Rattle.std.proofs.Common.{◌≡◌, ℕ, ◌+◌, ◌-◌, ◌*◌, ◌<◌, ◌≤◌, List, [], ◌∷◌, ◌++◌, length, get_or, take, set, sym, refl, ap, ◌∙◌, subst, inl, inr, arith, length-set, get_or-set_same}
+use Rattle.std.proofs.Common.{◌≡◌, ℕ, ◌+◌, ◌-◌, ◌*◌, ◌<◌, List, [], ◌∷◌, ◌++◌, length, set, sym, refl, ap, ◌∙◌, subst, inl, inr, arith, length-set, get_or-set_same}
 use Rattle.std.proofs.lemmas.List.{take_more_set, length_push}
 use Rattle.std.proofs.lemmas.Bool.{cases_lt}
 use Rattle.channel.specs.Meaning.{Meaning}
 use Rattle.burst.specs.Sequences.{place_at}
 use Rattle.burst.specs.declared.place.Place.{Place}
-use Rattle.recursions.specs.Backward.{backward}
 use Rattle.recursions.specs.Depths.{states}
-use Rattle.recursions.specs.Forward.{forward}
 use Rattle.recursions.proofs.Locality.{forward_local}
 use Rattle.recursions.proofs.Depths.{allowed_keeps}
-use Rattle.columns.specs.Cells.{CostsWithin, cells_of, costs_of}
-use Rattle.receiver.specs.Bursts.{Kept, places_of, forward_at, backward_at}
+use Rattle.columns.specs.Cells.{CostsWithin, costs_of}
+use Rattle.receiver.specs.Bursts.{Kept, places_of, backward_at}
 use Rattle.receiver.specs.Changes.{Added}
 use Rattle.receiver.specs.Sound.{Fits, Sound}
-use Rattle.receiver.specs.Standing.{standing, added}
 use Rattle.receiver.specs.declared.inner.Burst.{Burst}
 use Rattle.receiver.proofs.Places.{places_long, place_before, place_last, zeros, zeros_within, zeros_last, backward_end}
 

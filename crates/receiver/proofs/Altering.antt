@@ -1,8 +1,8 @@
 -- A burst with another place, or with places fewer, keeps what it kept, and is as sound as it was.
-use Rattle.std.proofs.Common.{◌≡◌, ℕ, ◌+◌, ◌-◌, ◌*◌, ◌<◌, ◌≤◌, min, max, Bool, true, false, cond, eqb, ◌≢◌, List, [], length, get_or, take, set, sym, refl, ap, ◌∙◌, subst, ap₂, inl, inr, le_trans, le_refl, arith, length-set, get_or-set_other, get_or-set_same, take-take}
+use Rattle.std.proofs.Common.{◌≡◌, ℕ, ◌+◌, ◌-◌, ◌*◌, ◌<◌, ◌≤◌, min, max, Bool, true, false, cond, ◌≢◌, List, [], length, take, set, sym, refl, ap, ◌∙◌, subst, inl, inr, le_trans, le_refl, arith, length-set, get_or-set_other, get_or-set_same, take-take}
 use native.Mathlib.Nat.{min-le_left, min-le_right, le-max_left, le-max_right, max-le}
 use lib.Seq.{take-set-lt}
-use Rattle.std.proofs.lemmas.List.{length-take-le, get_or-take}
+use Rattle.std.proofs.lemmas.List.{get_or-take}
 use Rattle.std.proofs.lemmas.Bool.{cases_eq, eqb-true}
 use Rattle.channel.specs.Meaning.{Meaning, taken}
 use Rattle.channel.specs.declared.sample.Sample.{Sample}
@@ -12,7 +12,6 @@ use Rattle.burst.specs.declared.place.Place.{Place}
 use Rattle.burst.specs.declared.priors.Priors.{Priors}
 use Rattle.recursions.specs.Backward.{backward, backward_of}
 use Rattle.recursions.specs.Depths.{states}
-use Rattle.recursions.specs.Forward.{forward}
 use Rattle.recursions.proofs.Depths.{allowed_keeps}
 use Rattle.recursions.proofs.FullDepth.{backward_local}
 use Rattle.recursions.proofs.Locality.{forward_local}

@@ -1,10 +1,9 @@
 -- A burst at another depth, and one without places: what they keep, and that they are sound.
-use Rattle.std.proofs.Common.{◌≡◌, ℕ, ◌-◌, ◌*◌, ◌<◌, ◌≤◌, true, List, [], map, length, take, set, replicate, sym, refl, ap, ◌∙◌, subst, arith, length-set, get_or-set_same}
+use Rattle.std.proofs.Common.{◌≡◌, ℕ, ◌-◌, ◌*◌, ◌≤◌, true, List, [], map, length, take, set, replicate, sym, refl, ap, ◌∙◌, subst, arith, length-set, get_or-set_same}
 use lib.ListN.{get_or-replicate}
 use Rattle.std.specs.List.{range_with_len}
 use Rattle.channel.specs.Meaning.{Meaning}
 use Rattle.burst.specs.declared.place.Place.{Place}
-use Rattle.recursions.specs.Backward.{backward}
 use Rattle.recursions.specs.Depths.{states, depth_allowed}
 use Rattle.recursions.specs.Forward.{forward, start_cell}
 use Rattle.recursions.proofs.Depths.{allowed_keeps}
@@ -14,8 +13,7 @@ use Rattle.columns.specs.declared.column.Column.{Column}
 use Rattle.columns.specs.declared.shape.Shape.{Shape}
 use Rattle.receiver.specs.Bursts.{Kept, places_of, forward_at, backward_at}
 use Rattle.receiver.specs.Changes.{Deepened}
-use Rattle.receiver.specs.Sound.{Fits, Sound}
-use Rattle.receiver.specs.Standing.{standing}
+use Rattle.receiver.specs.Sound.{Sound}
 use Rattle.receiver.specs.declared.inner.Burst.{Burst}
 use Rattle.receiver.proofs.Places.{places_long, zeros, zeros_within, zeros_last, backward_end}
 

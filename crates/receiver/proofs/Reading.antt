@@ -1,13 +1,12 @@
 -- What is read off sound columns is what the recursions answer.
-use Rattle.std.proofs.Common.{◌≡◌, ℕ, suc, ◌+◌, ◌-◌, ◌*◌, ◌<◌, ◌≤◌, Bool, true, false, eqb, List, length, get_or, Some, None, Option, sym, refl, ap, ◌∙◌, subst, ap₂, inl, inr, add-one, arith}
+use Rattle.std.proofs.Common.{◌≡◌, ℕ, ◌+◌, ◌<◌, ◌≤◌, true, eqb, List, get_or, Some, None, Option, sym, ap, ◌∙◌, subst, ap₂, inl, inr, add-one, arith}
 use Rattle.std.proofs.lemmas.Bool.{eq-eqb, ne_eqb, cases_eq}
 use Rattle.cost.specs.declared.Cost.{Cost}
 use Rattle.cost.specs.declared.Cost.TheVariants.{Eighths, Barred}
-use Rattle.channel.specs.Meaning.{Meaning, Lawful}
+use Rattle.channel.specs.Meaning.{Meaning}
 use Rattle.burst.specs.Sequences.{place_at}
 use Rattle.burst.specs.declared.place.Place.{Place}
 use Rattle.joining.specs.Costs.{cost_operations}
-use Rattle.trellis.specs.Sequences.{join_below}
 use Rattle.trellis.proofs.Below.{below_cong}
 use Rattle.trellis.proofs.Least.{below_reached}
 use Rattle.recursions.specs.Answers.{meeting, value_cost, best, least_of, first_least}
@@ -21,7 +20,6 @@ use Rattle.columns.specs.Pairs.{min_below}
 use Rattle.columns.specs.Cells.{CostsWithin, cells_of, costs_of}
 use Rattle.columns.specs.Shapes.{Shapes}
 use Rattle.columns.specs.Worked.{Met}
-use Rattle.columns.specs.declared.column.Column.{Column}
 use Rattle.columns.proofs.Every.{cost_fits}
 use Rattle.columns.proofs.Minima.{min_as, min_fits}
 use Rattle.columns.proofs.Numbers.{as_eighths}

@@ -1,20 +1,17 @@
 -- Forward columns worked up to the end and then backward columns worked down to the start: what is left, what is worked, and that soundness stays.
-use Rattle.std.proofs.Common.{◌≡◌, ℕ, zero, suc, ◌+◌, ◌-◌, ◌*◌, ◌<◌, ◌≤◌, ◌⊎◌, List, [], length, get_or, take, Option, sym, refl, ap, ◌∙◌, subst, ap₂, inl, inr, add-one, arith}
+use Rattle.std.proofs.Common.{◌≡◌, ℕ, ◌+◌, ◌-◌, ◌*◌, ◌≤◌, List, [], get_or, take, Option, sym, ap, ◌∙◌, subst, ap₂, inl, inr, arith}
 use Rattle.std.proofs.lemmas.Bool.{cases_lt}
-use Rattle.cost.specs.declared.Cost.{Cost}
-use Rattle.channel.specs.Meaning.{Meaning, Lawful}
+use Rattle.channel.specs.Meaning.{Meaning}
 use Rattle.joining.specs.Costs.{cost_operations}
-use Rattle.trellis.specs.Sequences.{join_below}
 use Rattle.trellis.proofs.Below.{below_cong}
 use Rattle.burst.specs.Sequences.{place_at}
 use Rattle.burst.specs.declared.place.Place.{Place}
-use Rattle.recursions.specs.Answers.{least_of, best}
-use Rattle.recursions.specs.Backward.{backward, backward_of, backstep}
+use Rattle.recursions.specs.Answers.{least_of}
 use Rattle.recursions.specs.Depths.{states}
-use Rattle.recursions.specs.Forward.{Cell, cell_at, forward, step}
+use Rattle.recursions.specs.Forward.{Cell}
 use Rattle.columns.specs.Numbers.{as_cost}
 use Rattle.columns.specs.Pairs.{min_below}
-use Rattle.columns.specs.Cells.{CostsWithin, SurvivorsBelow, cells_of, costs_of}
+use Rattle.columns.specs.Cells.{CostsWithin, SurvivorsBelow, cells_of}
 use Rattle.columns.specs.Shapes.{Shapes}
 use Rattle.columns.specs.Worked.{Stepped, Backstepped}
 use Rattle.columns.specs.declared.column.Column.{Column}
@@ -23,9 +20,8 @@ use Rattle.columns.proofs.Every.{costs_more, cost_fits}
 use Rattle.columns.proofs.Minima.{min_as}
 use Rattle.columns.proofs.Sums.{cell_at_lem}
 use Rattle.receiver.specs.Bursts.{Sized, Kept, places_of, column_at, forward_at, backward_at}
-use Rattle.receiver.specs.Settling.{Bounded, Left, Worked, SettledSound, best_cost}
-use Rattle.receiver.specs.Sound.{Shaped, Fits, Sound}
-use Rattle.receiver.specs.Standing.{standing, settled}
+use Rattle.receiver.specs.Settling.{Bounded, Left, Worked, best_cost}
+use Rattle.receiver.specs.Sound.{Shaped}
 use Rattle.receiver.specs.Steps.{SameRest, Climbed, Descended}
 use Rattle.receiver.specs.declared.inner.Burst.{Burst}
 use Rattle.receiver.proofs.Places.{places_long}

@@ -1,13 +1,11 @@
 -- The symbols back along survivors from the first state with the best are the shown sequence.
-use Rattle.std.proofs.Common.{◌≡◌, ℕ, ◌<◌, ◌≤◌, List, ◌++◌, length, get_or, take, drop, Some, None, Option, sym, refl, ap, ◌∙◌, subst, ap₂, arith}
-use lib.ListN.{get_or-append}
+use Rattle.std.proofs.Common.{◌≡◌, ℕ, ◌<◌, ◌≤◌, List, ◌++◌, length, get_or, take, drop, Some, sym, ap, ◌∙◌, ap₂}
 use Rattle.std.proofs.lemmas.List.{take-append-drop, get_or-take}
 use Rattle.cost.specs.declared.Cost.{Cost}
 use Rattle.cost.specs.declared.Cost.TheVariants.{Barred}
 use Rattle.channel.specs.Meaning.{Meaning}
-use Rattle.recursions.specs.Answers.{best, first_least, least_of, trace, trace_from, shown}
+use Rattle.recursions.specs.Answers.{first_least, least_of, trace, trace_from, shown}
 use Rattle.recursions.specs.Depths.{states}
-use Rattle.recursions.specs.Firsts.{same_cost}
 use Rattle.recursions.specs.Forward.{cell_at, forward}
 use Rattle.recursions.proofs.Firsts.{first_found, same_true}
 use Rattle.receiver.specs.Bursts.{Sized, places_of}

@@ -1,20 +1,19 @@
 -- Columns worked from right ones are right.
-use Rattle.std.proofs.Common.{◌≡◌, ℕ, zero, suc, ◌+◌, ◌-◌, ◌<◌, ◌≤◌, true, List, length, Option, sym, refl, ap, ◌∙◌, subst, ap₂, inl, inr, add-one, arith}
+use Rattle.std.proofs.Common.{◌≡◌, ℕ, zero, suc, ◌+◌, ◌-◌, ◌<◌, ◌≤◌, true, List, length, Option, sym, ap, ◌∙◌, subst, ap₂, inl, inr, add-one, arith}
 use Rattle.std.proofs.lemmas.Bool.{cases_lt}
 use Rattle.channel.specs.Meaning.{Meaning}
 use Rattle.burst.specs.Sequences.{place_at}
 use Rattle.burst.specs.declared.place.Place.{Place}
-use Rattle.recursions.specs.Answers.{least_of, best}
+use Rattle.recursions.specs.Answers.{least_of}
 use Rattle.recursions.specs.Backward.{backward, backward_of, backstep}
 use Rattle.recursions.specs.Depths.{states, depth_allowed}
 use Rattle.recursions.specs.Forward.{Cell, forward, step}
 use Rattle.columns.specs.Cells.{cells_of, costs_of}
 use Rattle.columns.specs.Shapes.{Shapes}
-use Rattle.columns.specs.declared.column.Column.{Column}
 use Rattle.columns.specs.declared.shape.Shape.{Shape}
 use Rattle.receiver.specs.Bursts.{Sized, places_of, forward_at, backward_at}
-use Rattle.receiver.specs.Settling.{Left, Worked, SettledSound, best_cost}
-use Rattle.receiver.specs.Sound.{Shaped, Fits, Sound}
+use Rattle.receiver.specs.Settling.{Left, Worked, SettledSound}
+use Rattle.receiver.specs.Sound.{Fits, Sound}
 use Rattle.receiver.specs.Standing.{Standing}
 use Rattle.receiver.specs.declared.inner.Burst.{Burst}
 use Rattle.receiver.proofs.Places.{places_long}

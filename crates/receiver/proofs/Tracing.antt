@@ -1,5 +1,5 @@
 -- One place back along survivors.
-use Rattle.std.proofs.Common.{◌≡◌, ℕ, zero, suc, ◌+◌, ◌-◌, ◌<◌, ◌≤◌, List, [], ◌∷◌, ◌++◌, length, get_or, take, drop, set, Some, None, Option, sym, refl, ap, ◌∙◌, subst, ap₂, append_assoc, add-one, arith}
+use Rattle.std.proofs.Common.{◌≡◌, ℕ, zero, suc, ◌-◌, ◌<◌, ◌≤◌, List, [], ◌∷◌, ◌++◌, length, get_or, take, drop, set, Some, None, Option, sym, refl, ap, ◌∙◌, subst, ap₂, append_assoc, arith}
 use Rattle.cost.specs.declared.Cost.TheVariants.{Barred}
 use Rattle.channel.specs.Meaning.{Meaning, Lawful}
 use Rattle.burst.specs.Sequences.{place_at}
@@ -8,7 +8,7 @@ use Rattle.recursions.specs.Depths.{states}
 use Rattle.recursions.specs.Forward.{Cell, cell_at, forward}
 use Rattle.recursions.proofs.Locality.{forward_at_lem}
 use Rattle.recursions.proofs.Survivors.{IsSurvivor, survivor_of}
-use Rattle.columns.specs.Cells.{survivor_pair, stored_cell}
+use Rattle.columns.specs.Cells.{survivor_pair}
 use Rattle.columns.specs.declared.column.Survivor.{Survivor}
 use Rattle.columns.proofs.Sums.{cell_at_lem}
 use Rattle.receiver.specs.Bursts.{Kept, Fresh, places_of, forward_at}

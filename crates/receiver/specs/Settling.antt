@@ -1,5 +1,5 @@
 -- What settling makes of any stored columns, right or wrong: fresh ones stay as found, every other is worked from its stored neighbour.
-use Rattle.std.specs.Prelude.{◌≡◌, ℕ, ◌+◌, ◌-◌, ◌<◌, ◌≤◌, List, Some, None, Option}
+use Rattle.std.specs.Prelude.{◌≡◌, ℕ, ◌+◌, ◌<◌, ◌≤◌, Some, None, Option}
 use Rattle.cost.specs.declared.Cost.{Cost}
 use Rattle.cost.specs.declared.Cost.TheVariants.{Eighths, Barred}
 use Rattle.channel.specs.Meaning.{Meaning}

@@ -1,5 +1,5 @@
 -- One column worked, and many: what is left as found, and what is worked from its stored neighbour.
-use Rattle.std.specs.Prelude.{◌≡◌, ℕ, ◌+◌, ◌-◌, ◌*◌, ◌<◌, ◌≤◌, List}
+use Rattle.std.specs.Prelude.{◌≡◌, ℕ, ◌+◌, ◌-◌, ◌*◌, ◌<◌, ◌≤◌}
 use Rattle.channel.specs.Meaning.{Meaning}
 use Rattle.burst.specs.Sequences.{place_at}
 use Rattle.columns.specs.Cells.{CostsWithin, SurvivorsBelow}

@@ -1,4 +1,4 @@
-use Rattle.std.proofs.Common.{◌≡◌, sym, ap, ◌∙◌, subst}
+use Rattle.std.proofs.Common.{sym, ap, ◌∙◌, subst}
 use Rattle.burst.specs.declared.place.Place.{Place}
 use Rattle.receiver.specs.Changes.{Altered}
 use Rattle.receiver.specs.Sound.{Fits}

@@ -1,4 +1,4 @@
-use Rattle.std.proofs.Common.{refl, arith}
+use Rattle.std.proofs.Common.{refl}
 use Rattle.receiver.proofs.Settling.{kept_bounded, left_by, worked_by, kept_by}
 use Rattle.receiver.proofs.Soundness.{settled_sound}
 use Rattle.receiver.proofs.inner.Burst.settle.Goals as goal

@@ -1,7 +1,6 @@
-use Rattle.std.proofs.Common.{◌≡◌, ℕ, suc, ◌-◌, ◌<◌, ◌≤◌, true, List, [], ◌++◌, length, get_or, take, drop, set, Some, None, Option, sym, refl, ap, ◌∙◌, subst, arith}
+use Rattle.std.proofs.Common.{◌≡◌, ℕ, suc, ◌-◌, ◌<◌, ◌≤◌, List, ◌++◌, get_or, take, drop, set, Some, None, sym, refl, ap, ◌∙◌, subst, arith}
 use Rattle.std.proofs.lemmas.Bool.{ltb-true}
 use Rattle.recursions.specs.Answers.{trace}
-use Rattle.recursions.specs.Depths.{states}
 use Rattle.channel.specs.Meaning.{Meaning}
 use Rattle.columns.specs.Cells.{survivor_fits}
 use Rattle.columns.specs.declared.column.Survivor.{Survivor}
