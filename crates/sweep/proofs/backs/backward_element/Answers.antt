@@ -17,6 +17,13 @@ returns-then-column-places g c =
     let state : ℕ = c.args.index % c.args.sizes.states in
     c.unit.ensures ∙ sym (backward_end t sound (length places) state) ∙ ap (λ (k : ℕ). backward_element_of t (length places) k state) (sym c.if-column-places.true)
 
+pub lead_on-requires-clause-room : goal.lead_on-requires-clause-room
+lead_on-requires-clause-room g c =
+    let n : ℕ = c.args.sizes.states in
+    let is = parts c.args.index n (length c.args.places.now + 1) c.requires.sized.some_states c.requires.index in
+    let last = columns_le (c.args.index / n + 1 + 1) (length c.args.places.now + 1) n (omega (arith, is.column, c.if-column-places.false)) in
+    omega (arith, last, c.requires.room)
+
 pub lead_on-requires-clause-after : goal.lead_on-requires-clause-after
 lead_on-requires-clause-after g c =
     let o = g.J.Joining.operations in
