@@ -1,5 +1,5 @@
 -- A worked receiver that is settled, beside a new one that is given what stands and settled: they cannot be told apart.
-use Rattle.std.proofs.Common.{◌≡◌, ℕ, ◌+◌, ◌-◌, ◌<◌, ◌≤◌, Bool, true, false, cond, not, eqb, List, [], ◌∷◌, length, get_or, Some, None, Option, sym, refl, ap, ◌∙◌, subst, ap₂, arith}
+use Rattle.std.proofs.Common.{◌≡◌, ℕ, ◌+◌, ◌-◌, ◌≤◌, Bool, true, false, cond, not, eqb, List, [], ◌∷◌, length, get_or, Some, None, Option, sym, refl, ap, ◌∙◌, subst, arith}
 use Rattle.channel.specs.Meaning.{Meaning, Lawful}
 use Rattle.trellis.specs.Least.{IsLeast}
 use Rattle.burst.specs.Sequences.{total}

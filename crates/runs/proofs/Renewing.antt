@@ -1,5 +1,5 @@
 -- A new receiver that is given what stands in a sound one takes all of it.
-use Rattle.std.proofs.Common.{◌≡◌, ℕ, zero, suc, ◌+◌, ◌-◌, ◌<◌, ◌≤◌, true, not, leb, List, [], ◌∷◌, ◌++◌, map, length, None, Option, sym, refl, ap, ◌∙◌, subst, ap₂, append_assoc, append-nil, arith}
+use Rattle.std.proofs.Common.{◌≡◌, ℕ, zero, suc, ◌+◌, ◌<◌, ◌≤◌, true, not, leb, List, [], ◌∷◌, ◌++◌, map, length, None, Option, sym, refl, ap, ◌∙◌, ap₂, append_assoc, append-nil, arith}
 use Rattle.std.proofs.lemmas.List.{length_push}
 use Rattle.std.proofs.lemmas.Bool.{lt-leb}
 use Rattle.channel.specs.Meaning.{Meaning, taken}
@@ -7,10 +7,8 @@ use Rattle.burst.specs.Places.{priors_allowed}
 use Rattle.burst.specs.Sequences.{place_at}
 use Rattle.burst.specs.declared.place.Place.{Place}
 use Rattle.recursions.specs.Depths.{depth_allowed}
-use Rattle.receiver.specs.Bursts.{places_of}
-use Rattle.receiver.specs.Sound.{Fits, Sound}
-use Rattle.receiver.specs.Standing.{Standing, standing, new_standing, add_refusal, added, depth_refusal, deepened, settled}
-use Rattle.receiver.specs.declared.inner.Burst.{Burst}
+use Rattle.receiver.specs.Sound.{Fits}
+use Rattle.receiver.specs.Standing.{Standing, new_standing, add_refusal, added, deepened}
 use Rattle.receiver.proofs.Checks.{passes, one_passes}
 use Rattle.runs.specs.Calls.{unless, after}
 use Rattle.runs.specs.Runs.{ends, given}

@@ -1,6 +1,5 @@
 use Rattle.std.proofs.Common.{◌≡◌, ◌≤◌, true, length, take, ap, ◌∙◌, subst, arith}
 use Rattle.recursions.specs.Depths.{depth_allowed}
-use Rattle.receiver.specs.Bursts.{places_of}
 use Rattle.receiver.specs.Standing.{Standing, standing, new_standing, settled}
 use Rattle.runs.specs.Law.{one_said, other_said}
 use Rattle.runs.specs.Runs.{ends, given}

@@ -1,4 +1,4 @@
-use Rattle.std.proofs.Common.{◌≡◌, ◌∙◌, take_all}
+use Rattle.std.proofs.Common.{◌∙◌, take_all}
 use Rattle.runs.proofs.Running.{added_next}
 use Rattle.runs.proofs.run.add_all.Goals as goal
 

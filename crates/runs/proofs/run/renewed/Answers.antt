@@ -1,4 +1,4 @@
-use Rattle.std.proofs.Common.{◌≡◌, ℕ, [], ap, ◌∙◌, subst}
+use Rattle.std.proofs.Common.{ℕ, [], subst}
 use Rattle.receiver.specs.Standing.{standing}
 use Rattle.runs.specs.Obeying.{Obeys}
 use Rattle.runs.specs.declared.call.Call.TheVariants.{Depth}

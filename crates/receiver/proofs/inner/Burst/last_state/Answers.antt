@@ -10,17 +10,14 @@ small_by : (n : ℕ) (passes : ℕ → Bool) (found : Option ℕ) → n ≤ 16 �
 small_by n passes None few is = tt
 small_by n passes (Some s) few is = omega (arith, (first_found n s passes (sym is)).below)
 
-pub returns-then-cost : goal.returns-then-cost
-returns-then-cost c = record {
-  small = tt;
-  first = λ m sound.
-      no_state c.args.self.now c.requires.kept c.requires.fresh m sound c.least-cost.result c.least-cost.ensures (as_barred c.least-cost.result c.if-cost.true);
-}
+pub returns-then-cost-clause-first : goal.returns-then-cost-clause-first
+returns-then-cost-clause-first c m sound =
+    no_state c.args.self.now c.requires.kept c.requires.fresh m sound c.least-cost.result c.least-cost.ensures (as_barred c.least-cost.result c.if-cost.true)
 
-pub returns : goal.returns
-returns c = record {
-  small = small_by c.args.self.now.shape.states _ c.first_with.result c.args.self.now.shape.few c.first_with.ensures;
-  first = λ m sound.
-      some_state c.args.self.now c.requires.kept c.requires.fresh m sound c.least-cost.result c.first_with.result c.least-cost.ensures c.if-cost.false
-      c.first_with.ensures;
-}
+pub returns-clause-small : goal.returns-clause-small
+returns-clause-small c = small_by c.args.self.now.shape.states _ c.first_with.result c.args.self.now.shape.few c.first_with.ensures
+
+pub returns-clause-first : goal.returns-clause-first
+returns-clause-first c m sound =
+    some_state c.args.self.now c.requires.kept c.requires.fresh m sound c.least-cost.result c.first_with.result c.least-cost.ensures c.if-cost.false
+    c.first_with.ensures

@@ -1,22 +1,12 @@
 use Rattle.std.proofs.Common.{sym, ap, ◌∙◌, subst}
 use Rattle.burst.specs.declared.place.Place.{Place}
-use Rattle.receiver.specs.Changes.{Altered}
 use Rattle.receiver.specs.Sound.{Fits}
-use Rattle.receiver.specs.Standing.{standing, altered}
 use Rattle.receiver.proofs.Altering.{priors_fit}
 use Rattle.receiver.proofs.Places.{place_of}
 use Rattle.receiver.proofs.inner.Burst.reweigh.Goals as goal
 
-pub returns : goal.returns
-returns c =
+pub returns-clause-sound : goal.returns-clause-sound
+returns-clause-sound c m tells keeps sound =
     let b = c.args.self.now in
-    let is =
-    c.with_priors-place.ensures
-    ∙ ap (λ (p : Place). record { sample = p.sample; priors = c.args.priors }) (sym (place_of b c.args.k c.requires.held)) in
-    record {
-      reweighed =
-          subst (λ (p : Place). Altered b c.alter.new.self (altered c.args.full (standing b) c.args.k p)) is c.alter.ensures.altered;
-      kept = c.alter.ensures.kept;
-      sound = λ m tells keeps sound.
-          c.alter.ensures.sound m tells (subst (Fits m) (sym is) (priors_fit m b sound c.args.k c.requires.held c.args.priors keeps)) sound;
-    }
+    let is = c.with_priors-place.ensures ∙ ap (λ (p : Place). record { sample = p.sample; priors = c.args.priors }) (sym (place_of b c.args.k c.requires.held)) in
+    c.alter.ensures.sound m tells (subst (Fits m) (sym is) (priors_fit m b sound c.args.k c.requires.held c.args.priors keeps)) sound

@@ -1,10 +1,9 @@
-use Rattle.std.proofs.Common.{refl}
 use Rattle.receiver.specs.Bursts.{Kept}
 use Rattle.receiver.proofs.Settling.{kept_bounded}
 use Rattle.receiver.proofs.receiver.Receiver.settle.Goals as goal
 
-pub returns : goal.returns
-returns g c =
+pub returns-clause-worked : goal.returns-clause-worked
+returns-clause-worked g c =
     let self = c.args.self.now in
     let kept : Kept self.burst = record {
       sized = record {
@@ -19,10 +18,4 @@ returns g c =
       survivors = self.survivors;
       onward = self.onward;
     } in
-    record {
-      channel = refl;
-      count = c.settle.ensures.count;
-      left = c.settle.ensures.left;
-      worked = λ shaped. c.settle.ensures.worked shaped (kept_bounded self.burst kept);
-      sound = λ sound. c.settle.ensures.sound kept sound;
-    }
+    λ shaped. c.settle.ensures.worked shaped (kept_bounded self.burst kept)
