@@ -1,5 +1,5 @@
 -- A text of digits, read from the left, and the texts that no number is written as.
-use Rattle.std.proofs.Common.{◌≡◌, ℕ, zero, suc, ◌+◌, ◌-◌, ◌*◌, ◌^◌, ◌<◌, ◌≤◌, List, [], ◌∷◌, length, get_or, take, drop, ℤ, pos, negsuc, neg_ℤ, nat_abs, decimal, sym, refl, ap, ◌∙◌, subst, inl, inr, arith, length-take}
+use Rattle.std.proofs.Common.{◌≡◌, ℕ, suc, ◌+◌, ◌-◌, ◌*◌, ◌^◌, ◌<◌, ◌≤◌, List, [], ◌∷◌, length, get_or, take, drop, ℤ, pos, negsuc, decimal, sym, refl, ap, ◌∙◌, subst, inl, inr, arith, length-take}
 use lib.Signed.{mag}
 use Rattle.std.specs.Str.Parse.{AllDigits, digits_value}
 use Rattle.std.specs.Int.{IsInRange}
@@ -67,11 +67,6 @@ after_minus [] rest h e f = absurd (omega arith)
 after_minus (x ∷ xs) rest h e f = ap (λ y. y ∷ xs) e ∙ ap (λ l. 45 ∷ l) (sym (f ∙ take_all (length (x ∷ xs) - 1) xs (omega arith)))
 
 -- after a minus
-pub minus_number :
-    (text rest : List ℕ) (n : ℕ) → text ≡ 45 ∷ rest → rest ≡ decimal n → 0 < n → n < 10 ^ 7 → (text ≡ signed_decimal (neg_ℤ (pos n))) × SevenDigits (neg_ℤ (pos n))
-minus_number text rest zero e f p h = absurd (omega arith)
-minus_number text rest (suc n) e f p h = (e ∙ ap (λ l. 45 ∷ l) f, h)
-
 pub no_minus_zero : (rest : List ℕ) → rest ≡ decimal 0 → (n : ℕ) → n < 10 ^ 7 → 0 < n → rest ≡ decimal n → ⊥
 no_minus_zero rest z n h p e = omega (arith, decimal_injective 0 n (omega arith) (omega arith) (sym z ∙ e))
 
