@@ -1,11 +1,10 @@
-use Rattle.std.proofs.Common.{◌≡◌, ℕ, ◌⊎◌, List, [], ◌++◌, length, codes, sym, refl, ap, ◌∙◌, subst, inl, inr, rules}
+use Rattle.std.proofs.Common.{◌≡◌, ℕ, ◌⊎◌, List, [], ◌++◌, length, codes, sym, refl, ap, ◌∙◌, subst, inl, inr, arith, rules}
 use Rattle.std.specs.Fmt.{signed_decimal}
 use Rattle.std.proofs.lemmas.Result.{err_from_is_err_and}
 use Rattle.forms.specs.Forms.{place_form, prior_text, PriorLawful, listed}
 use Rattle.forms.proofs.Bodies.{only_place, one_list, held_whole, some_priors, other_count, room_left}
 use Rattle.forms.specs.Telling.{kept, past_number, prior_told}
 use Rattle.forms.proofs.read.read_place.Goals as goal
-use Rattle.forms.proofs.read.read_place.Goals.{else-count-ne2-via-then-count-ne2+else-count-ne4, else-count-ne2-via-else-count-ne2}
 
 pub returns-in_err-second : goal.returns-in_err-second
 returns-in_err-second c =
@@ -30,7 +29,7 @@ returns-then-count-ne4 c =
     let a = past_number c.in_ok-first.first x (codes " ") _ _ _ (inl refl) (inl refl) c.in_ok-first.ensures l.0 e in
     let b = past_number c.in_ok-second.second y (codes ") (prior") _ _ _ (inr refl) (inr refl) c.in_ok-second.ensures l.1 a.1 in
     let same = one_list prior_text PriorLawful prior_told _ k.pieces ps k.all_lawful l.2 k.text_is b.1 in
-    other_count c.read_list.new.into k.pieces ps _ five k.counted same c.if-count-ne2.true c.if-count-ne4.true l.3)
+    other_count c.read_list.new.into k.pieces ps _ five k.counted same (search rules) c.if-count-ne4.true l.3)
 
 pub returns : goal.returns
 returns c =
@@ -42,10 +41,7 @@ returns c =
     let count = c.in_ok-count.count in
     let five : length c.read_list.new.into ≡ 5 = search rules in
     let two_or_four : (count ≡ 2) ⊎ (count ≡ 4) =
-    elim c.else-count-ne2.branch [
-      | else-count-ne2-via-then-count-ne2+else-count-ne4 w ↦ inr w.if-count-ne4.false
-      | else-count-ne2-via-else-count-ne2 w ↦ inl w.if-count-ne2.false
-    ] in
+    grind arith in
     let whole = held_whole c.read_list.new.into k.pieces count k.counted (room_left count _ five two_or_four) k.front in
     record {
       form = place_form x y k.pieces;
