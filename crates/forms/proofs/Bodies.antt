@@ -1,5 +1,5 @@
 -- Lines as their first words and what follows those.
-use Rattle.std.proofs.Common.{◌≡◌, ℕ, ◌<◌, ◌≤◌, min, ◌⊎◌, List, [], ◌∷◌, ◌++◌, map, length, get_or, take, ℤ, Ok, Err, codes, Result, sym, refl, ap, ◌∙◌, subst, inl, inr, arith, MatchResult}
+use Rattle.std.proofs.Common.{◌≡◌, ℕ, ◌<◌, ◌≤◌, min, ◌⊎◌, List, [], ◌∷◌, ◌++◌, map, length, get_or, take, ℤ, Ok, Err, codes, Result, sym, refl, ap, ◌∙◌, inl, inr, arith}
 use Rattle.std.specs.Fmt.{signed_decimal}
 use Rattle.std.specs.List.{AllByRecursion as All}
 use Rattle.std.proofs.lemmas.List.{append_cancel_left, append-nil, take-map, take_all}
@@ -10,9 +10,9 @@ use Rattle.forms.specs.declared.head.Head.{Head}
 use Rattle.forms.specs.declared.head.Head.TheVariants.{Taps, Table, Code, Depth, Place}
 use Rattle.forms.specs.declared.line.Line.{Line}
 use Rattle.forms.specs.declared.prior.Prior.{Prior}
-use Rattle.forms.specs.Forms.{Form, taps_form, table_form, code_form, depth_form, place_form, prior_text, entry_text, feed, listed, opening, head_of, body_of, text_of, PriorLawful, EntryLawful, Lawful, FormsHaveOneText}
-use Rattle.forms.specs.Lines.{nearest, IsBody, ReadsBody, ReadsLine}
-use Rattle.forms.specs.Pieces.{Ends, Told, Kept}
+use Rattle.forms.specs.Forms.{Form, taps_form, table_form, code_form, depth_form, place_form, prior_text, entry_text, feed, listed, opening, head_of, body_of, PriorLawful, EntryLawful, Lawful, FormsHaveOneText}
+use Rattle.forms.specs.Lines.{nearest, ReadsBody, ReadsLine}
+use Rattle.forms.specs.Pieces.{Ends, Told}
 use Rattle.forms.proofs.Lists.{begins, shut, spaced}
 use Rattle.forms.specs.Telling.{number_told, prior_told, entry_told, past_number}
 

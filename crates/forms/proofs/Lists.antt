@@ -1,7 +1,7 @@
 -- Pieces read one after another.
-use Rattle.std.proofs.Common.{◌≡◌, ℕ, zero, suc, ◌+◌, ◌-◌, ◌<◌, ◌≤◌, min, ◌⊎◌, List, [], ◌∷◌, ◌++◌, length, get_or, take, drop, set, codes, sym, refl, ap, ◌∙◌, subst, inl, inr, append_assoc, arith, length-append, length-drop, length-set, length-take}
+use Rattle.std.proofs.Common.{◌≡◌, ℕ, ◌+◌, ◌-◌, ◌<◌, ◌≤◌, min, ◌⊎◌, List, [], ◌∷◌, ◌++◌, length, get_or, take, drop, set, codes, sym, refl, ap, ◌∙◌, subst, inl, inr, append_assoc, arith, length-append, length-drop, length-set, length-take}
 use Rattle.std.specs.List.{flat_map, AllByRecursion as All}
-use Rattle.std.proofs.lemmas.List.{take_all, take-append-le, take_more_set, flat_map_more, append-nil, length_push}
+use Rattle.std.proofs.lemmas.List.{take_all, take-append-le, take_more_set, flat_map_more, length_push}
 use Rattle.std.proofs.ByRecursion.{All-push}
 use Rattle.forms.specs.Forms.{feed, listed}
 use Rattle.forms.specs.Pieces.{Ends, Told, Kept}

@@ -1,5 +1,5 @@
 -- Numbers, priors and entries stand at the front of a text in one way only.
-use Rattle.std.specs.Prelude.{◌≡◌, ℕ, suc, ◌<◌, List, [], ◌∷◌, ◌++◌, length, ℤ, pos, negsuc, codes, ◌≢◌, slice_index, slice_index_or, refl}
+use Rattle.std.specs.Prelude.{◌≡◌, ℕ, ◌<◌, List, [], ◌∷◌, ◌++◌, length, ℤ, pos, negsuc, codes, ◌≢◌, slice_index, slice_index_or, refl}
 use Rattle.std.proofs.Common.{sym, ap, ◌∙◌, subst, append_assoc, inl, inr, arith, to_z, of_z}
 use Rattle.std.specs.Int.{IsInRange, w32}
 use Rattle.std.specs.Fmt.{signed_decimal}

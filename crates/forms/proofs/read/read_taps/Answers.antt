@@ -1,8 +1,7 @@
-use Rattle.std.proofs.Common.{◌≡◌, List, [], ◌++◌, length, codes, sym, refl, ap, ◌∙◌, inl, inr, rules}
+use Rattle.std.proofs.Common.{◌≡◌, ◌++◌, length, codes, refl, ap, ◌∙◌, inr, rules}
 use Rattle.std.specs.Fmt.{signed_decimal}
 use Rattle.std.proofs.lemmas.Result.{err_from_is_err_and}
-use Rattle.numerals.specs.Numbers.{SevenDigits}
-use Rattle.forms.specs.Forms.{taps_form, listed}
+use Rattle.forms.specs.Forms.{taps_form}
 use Rattle.forms.proofs.Bodies.{only_taps, taps_said}
 use Rattle.forms.specs.Telling.{kept, past_number}
 use Rattle.forms.proofs.read.read_taps.Goals as goal
