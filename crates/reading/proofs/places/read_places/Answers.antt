@@ -6,7 +6,7 @@ use Rattle.reading.proofs.places.read_places.Goals as goal
 pub loop-rest-init : goal.loop-rest-init
 loop-rest-init g c = (so_none _ 3 _ _, λ b. b)
 
-pub add-line-requires : goal.add-line-requires
+pub add_line-requires : goal.add_line-requires
 add_line-requires g c =
     let some : 0 < length c.loop-rest.rest.now = search rules in
     some_line _ _ _ c.cut_line.ensures some

@@ -4,7 +4,7 @@ use Rattle.reading.proofs.Running.{short_text, bad_heads, good_heads}
 use Rattle.reading.proofs.Single.{one_answer}
 use Rattle.reading.proofs.whole.read_new.Goals as goal
 
-pub returns-then-text-gt-MOST-BYTES : goal.returns-then-text-gt-MOST-BYTES
+pub returns-then-text-gt-MOST_BYTES : goal.returns-then-text-gt-MOST_BYTES
 returns-then-text-gt-MOST_BYTES g c = record { reads = record { long = λ _. refl; short = λ h. absurd (omega arith) }; begun = tt; one = one_answer }
 
 pub returns-in_err-receiver : goal.returns-in_err-receiver
@@ -18,7 +18,7 @@ returns-in_err-receiver g c =
       one = one_answer;
     })
 
-pub returns-in_err-read-places : goal.returns-in_err-read-places
+pub returns-in_err-read_places : goal.returns-in_err-read_places
 returns-in_err-read_places g c =
     let p = err_from_is_err_and c.from_residual-in_err-read_places.result c.from_residual-in_err-read_places.ensures.1 in
     let k = g.C.Spelled.rule in

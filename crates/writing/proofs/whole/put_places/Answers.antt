@@ -8,7 +8,7 @@ use Rattle.writing.proofs.whole.put_places.Goals as goal
 pub loop-place-init : goal.loop-place-init
 loop-place-init c = (adds_none _, omega arith)
 
-pub put-place-requires : goal.put-place-requires
+pub put_place-requires : goal.put_place-requires
 put_place-requires c = omega (arith, c.loop-place.invariant.1, c.requires)
 
 pub loop-place-preserved : goal.loop-place-preserved
