@@ -40,7 +40,7 @@ pub sum_bounded : (shape : Shape) (costs weights sums : List ℕ) → ((p : ℕ)
     → (b : ℕ) → CostsWithin b costs → b ≤ 40000000 → (p : ℕ) → p < pairs shape → Within (b + 131069) (get_or sums p 0)
 sum_bounded shape costs weights sums small summed b within low p lt =
     subst (Within (b + 131069)) (sym (summed p lt))
-    (sum_within b 131069 _ _ (every.cost-within b costs within (p / shape.symbols)) (small p (omega (arith, shape.pairs))) (omega arith))
+    (sum_within b 131069 _ _ (every.cost_within b costs within (p / shape.symbols)) (small p (omega (arith, shape.pairs))) (omega arith))
 
 module _ (m : Meaning) (q : ℕ) (shape : Shape) (shapes : Shapes m q shape) (place : Place) (column : Column) (weights : List ℕ)
     (weighed : (p : ℕ) → p < pairs shape → as_cost (get_or weights p 0) ≡ pair_weight m shape.symbols place column.histories p)
@@ -75,7 +75,7 @@ module _ (m : Meaning) (q : ℕ) (shape : Shape) (shapes : Shapes m q shape) (pl
         summed p (pair_within p lt) ∙ ap (λ (k : ℕ). sum (get_or column.costs (p / k) 0) (get_or weights p 0)) shapes.symbols
 
     cost_within : (p : ℕ) → p < states m q * m.symbols → Within b (get_or column.costs (p / m.symbols) 0)
-    cost_within p lt = every.cost-within b column.costs within (p / m.symbols)
+    cost_within p lt = every.cost_within b column.costs within (p / m.symbols)
 
     -- what it costs to come by a pair
     pub sums_are : (p : ℕ) → p < states m q * m.symbols → as_cost (get_or sums p 0) ≡ via m place cells (p / m.symbols) (p % m.symbols)

@@ -20,7 +20,7 @@ use Rattle.burst.specs.declared.place.Place.{Place}
 use Rattle.burst.proofs.Sizes.{two_symbols}
 use Rattle.recursions.specs.Depths.{states}
 use Rattle.recursions.specs.Firsts.{same_cost}
-use Rattle.recursions.specs.Forward.{Cell, cell_at, next, via, weight, least_into, leads_to, pair_if, survivor_into, history_into, forward}
+use Rattle.recursions.specs.Forward.{Cell, cell_at, next, via, least_into, leads_to, pair_if, survivor_into, history_into, forward}
 use Rattle.recursions.specs.Answers.{trace, trace_by}
 use Rattle.recursions.proofs.Firsts.{first_exists, same_itself, same_true}
 use Rattle.recursions.proofs.Locality.{start_at, forward_at_lem}

@@ -1,5 +1,5 @@
 -- What the recursions answer, said of sequences and their totals.
-use Rattle.std.specs.Prelude.{◌≡◌, ℕ, ◌<◌, ◌≤◌, true, List, length, ◌≢◌, nat_eq, slice_index}
+use Rattle.std.specs.Prelude.{◌≡◌, ℕ, ◌<◌, true, List, length, ◌≢◌, nat_eq, slice_index}
 use Rattle.cost.specs.declared.Cost.TheVariants.{Barred}
 use Rattle.channel.specs.Meaning.{Meaning, Lawful}
 use Rattle.joining.specs.Costs.{cost_operations}

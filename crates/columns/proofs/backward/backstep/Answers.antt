@@ -22,7 +22,7 @@ loop-state-preserved g c =
     let shape = c.args.shape in
     let below : state < length costs = omega (arith, shape.few, c.loop-state.invariant.2) in (
       set_more (λ s n. n ≡ min_below shape.symbols (λ a. onward_sum shape.states c.weigh-weights.result c.args.later.now (a + shape.symbols * s)))
-          costs state c.least-onward.result 0 below c.loop-state.invariant.0 c.least-onward.ensures,
-      λ s past lt. let ne : s ≢ state = omega arith in get_or-set_other costs state s c.least-onward.result 0 ne ∙ c.loop-state.invariant.1 s (omega arith) lt,
-      length-set costs state c.least-onward.result ∙ c.loop-state.invariant.2,
+          costs state c.least_onward.result 0 below c.loop-state.invariant.0 c.least_onward.ensures,
+      λ s past lt. let ne : s ≢ state = omega arith in get_or-set_other costs state s c.least_onward.result 0 ne ∙ c.loop-state.invariant.1 s (omega arith) lt,
+      length-set costs state c.least_onward.result ∙ c.loop-state.invariant.2,
     )

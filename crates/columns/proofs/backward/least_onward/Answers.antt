@@ -12,4 +12,4 @@ loop-symbol-init c = min_none _
 
 pub loop-symbol-preserved : goal.loop-symbol-preserved
 loop-symbol-preserved c =
-    c.min-least.ensures ∙ ap₂ min c.loop-symbol.invariant c.saturating-add.ensures ∙ min_more c.loop-symbol.symbol (λ a. onward_sum c.args.shape.states c.args.weights.now c.args.later.now (a + c.args.shape.symbols * c.args.state))
+    c.min-least.ensures ∙ ap₂ min c.loop-symbol.invariant c.saturating_add.ensures ∙ min_more c.loop-symbol.symbol (λ a. onward_sum c.args.shape.states c.args.weights.now c.args.later.now (a + c.args.shape.symbols * c.args.state))

@@ -12,4 +12,4 @@ loop-state-init c = min_none _
 
 pub loop-state-preserved : goal.loop-state-preserved
 loop-state-preserved c =
-    c.min-least.ensures ∙ ap₂ min c.loop-state.invariant c.saturating-add.ensures ∙ min_more c.loop-state.state (λ s. onward_sum c.args.shape.states c.args.sums.now c.args.later.now (c.args.symbol + c.args.shape.symbols * s))
+    c.min-least.ensures ∙ ap₂ min c.loop-state.invariant c.saturating_add.ensures ∙ min_more c.loop-state.state (λ s. onward_sum c.args.shape.states c.args.sums.now c.args.later.now (c.args.symbol + c.args.shape.symbols * s))

@@ -12,6 +12,6 @@ pub bounds-column-from : goal.bounds-column-from
 bounds-column-from c =
     state_of_lem c.args.shape c.pick-pair.result (picked_below c.args.shape c.args.sums.now c.args.state c.args.shape.symbols c.pick-pair.result (omega arith) c.requires c.pick-pair.ensures)
 
-pub overflow-cast-result-3 : goal.overflow-cast-result-3
-overflow-cast-result-3 c =
+pub overflow_cast-result-3 : goal.overflow_cast-result-3
+overflow_cast-result-3 c =
     omega (arith, state_of_lem c.args.shape c.pick-pair.result (picked_below c.args.shape c.args.sums.now c.args.state c.args.shape.symbols c.pick-pair.result (omega arith) c.requires c.pick-pair.ensures))

@@ -9,8 +9,8 @@ bounds-sums-pair c = way_fits c.args.shape c.args.state c.loop-way.way c.require
 pub loop-way-preserved : goal.loop-way-preserved
 loop-way-preserved c =
     elim c.if-sums-pair.branch [
-      | then-sums-pair w ↦ rw w.best_is (picks_newer c.args.shape c.args.sums.now c.args.state c.loop-way.way c.loop-way.best c.loop-way.invariant w.if-sums-pair.true)
-      | else-sums-pair w ↦ rw w.best_is (picks_older c.args.shape c.args.sums.now c.args.state c.loop-way.way c.loop-way.best c.loop-way.invariant w.if-sums-pair.false)
+      | then-sums-pair w ↦ rw w.best-is (picks_newer c.args.shape c.args.sums.now c.args.state c.loop-way.way c.loop-way.best c.loop-way.invariant w.if-sums-pair.true)
+      | else-sums-pair w ↦ rw w.best-is (picks_older c.args.shape c.args.sums.now c.args.state c.loop-way.way c.loop-way.best c.loop-way.invariant w.if-sums-pair.false)
     ]
 
 pub bounds-sums-best : goal.bounds-sums-best

@@ -16,14 +16,14 @@ bounds-column-pair g c = state_of_lem c.args.shape c.loop-pair.pair (omega arith
 pub loop-pair-init : goal.loop-pair-init
 loop-pair-init g c = (λ p none. absurd (omega arith), λ p below. within_top _ _ (get_or-replicate 64 p 4294967295 0 below), refl)
 
-pub overflow-mul-shape : goal.overflow-mul-shape
-overflow-mul-shape g c =
+pub overflow_mul-shape : goal.overflow_mul-shape
+overflow_mul-shape g c =
     let small : c.from-history.result ≤ 255 = omega arith in
     let product : c.args.shape.symbols * c.from-history.result ≤ 4 * 255 = mul-le-mul c.args.shape.limited small in
     omega arith
 
-pub overflow-add-symbol : goal.overflow-add-symbol
-overflow-add-symbol g c =
+pub overflow_add-symbol : goal.overflow_add-symbol
+overflow_add-symbol g c =
     let small : c.from-history.result ≤ 255 = omega arith in
     let product : c.args.shape.symbols * c.from-history.result ≤ 4 * 255 = mul-le-mul c.args.shape.limited small in
     omega arith

@@ -3,8 +3,8 @@ use Rattle.cost.specs.Arithmetic.{plus}
 use Rattle.columns.proofs.Numbers.{as_eighths, within_low}
 use Rattle.columns.proofs.weigh.weight.Goals as goal
 
-pub overflow-add-result : goal.overflow-add-result
-overflow-add-result g c =
+pub overflow_add-result : goal.overflow_add-result
+overflow_add-result g c =
     let lawful = g.met.C.Channel.lawful c.args.channel.now in
     let cost : c.in-Eighths-Eighths.cost ≤ 65535 = lawful.bounded c.args.place.now.sample c.args.window c.in-Eighths-Eighths.cost (sym c.in-Eighths-Eighths.ensures) in
     let prior : c.in-Eighths-Eighths.prior ≤ 65534 = c.cost-2.ensures.small _ c.in-Eighths-Eighths.is-1 in

@@ -4,8 +4,8 @@ use Rattle.burst.proofs.Sizes.{short_memory, few_histories}
 use Rattle.recursions.proofs.Depths.{states_grow}
 use Rattle.columns.proofs.shape.Shape.count.Goals as goal
 
-pub overflow-cast-saturating-sub : goal.overflow-cast-saturating-sub
-overflow-cast-saturating-sub g c =
+pub overflow_cast-saturating_sub : goal.overflow_cast-saturating_sub
+overflow_cast-saturating_sub g c =
     let lawful = g.met.C.Channel.lawful c.args.channel.now in
     omega (arith, short_memory _ lawful)
 
@@ -14,10 +14,10 @@ pow-requires g c =
     let m = g.C.Channel.meaning c.args.channel.now in
     let lawful = g.met.C.Channel.lawful c.args.channel.now in
     let kind = c.alphabet.ensures ∙ sym (g.met.C.Channel.kind c.args.channel.now) in
-    let power = ap₂ (λ (s e : ℕ). s ^ e) kind c.saturating-sub.ensures in
+    let power = ap₂ (λ (s e : ℕ). s ^ e) kind c.saturating_sub.ensures in
     omega (arith, power, states_grow m lawful c.args.depth m.memory c.requires, few_histories m lawful)
 
 pub returns : goal.returns
 returns g c =
     let kind = c.alphabet.ensures ∙ sym (g.met.C.Channel.kind c.args.channel.now) in
-    c.pow.ensures ∙ ap₂ (λ (s e : ℕ). s ^ e) kind c.saturating-sub.ensures
+    c.pow.ensures ∙ ap₂ (λ (s e : ℕ). s ^ e) kind c.saturating_sub.ensures

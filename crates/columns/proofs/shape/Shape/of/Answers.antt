@@ -4,8 +4,8 @@ use Rattle.recursions.proofs.Depths.{allowed_keeps, states_within_histories}
 use Rattle.recursions.proofs.Trellises.{some_states}
 use Rattle.columns.proofs.shape.Shape.of.Goals as goal
 
-pub invariant-of-result : goal.invariant-of-result
-invariant-of-result g c =
+pub invariant_of-result : goal.invariant_of-result
+invariant_of-result g c =
     let m = g.C.Channel.meaning c.args.channel.now in
     let q = c.args.depth in
     let lawful = g.met.C.Channel.lawful c.args.channel.now in
@@ -18,4 +18,4 @@ invariant-of-result g c =
     let pairs : c.count.result * c.alphabet.result ≤ 16 * 4 = mul-le-mul few limited in
     let within = states_within_histories m lawful q c.requires in
     let some = some_states m lawful q in
-    (omega arith, (limited, (omega arith, (few, (pairs, (omega (arith, some_histories m lawful), (c.histories.ensures.few, (omega arith, tt))))))))
+    record { some = omega arith; limited = limited; inhabited = omega arith; few = few; pairs = pairs; remembered = omega (arith, some_histories m lawful); narrow = c.histories.ensures.few; within = omega arith }

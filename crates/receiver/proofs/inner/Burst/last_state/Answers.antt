@@ -19,8 +19,8 @@ returns-then-cost c = record {
 
 pub returns : goal.returns
 returns c = record {
-  small = small_by c.args.self.now.shape.states _ c.first-with.result c.args.self.now.shape.few c.first-with.ensures;
+  small = small_by c.args.self.now.shape.states _ c.first_with.result c.args.self.now.shape.few c.first_with.ensures;
   first = λ m sound.
-      some_state c.args.self.now c.requires.kept c.requires.fresh m sound c.least-cost.result c.first-with.result c.least-cost.ensures c.if-cost.false
-      c.first-with.ensures;
+      some_state c.args.self.now c.requires.kept c.requires.fresh m sound c.least-cost.result c.first_with.result c.least-cost.ensures c.if-cost.false
+      c.first_with.ensures;
 }

@@ -11,7 +11,7 @@ pub returns : goal.returns
 returns c =
     let b = c.args.self.now in
     let is =
-    c.with-sample-place.ensures
+    c.with_sample-place.ensures
     ∙ ap (λ (p : Place). record { sample = c.args.sample; priors = p.priors }) (sym (place_of b c.args.k c.requires.held)) in
     record {
       retaken =

@@ -11,7 +11,7 @@ pub returns : goal.returns
 returns c =
     let b = c.args.self.now in
     let is =
-    c.with-priors-place.ensures
+    c.with_priors-place.ensures
     ∙ ap (λ (p : Place). record { sample = p.sample; priors = c.args.priors }) (sym (place_of b c.args.k c.requires.held)) in
     record {
       reweighed =

@@ -28,15 +28,15 @@ whole : (m : Meaning) (b : Burst) (list : List ℕ) (state : ℕ) → trace m b.
 unfolding trace
 whole m b list state = let all : b.count - 0 ≡ b.count = omega arith in ap (λ (n : ℕ). take n list) all
 
-pub returns-in-default : goal.returns-in-default
-returns-in-default c =
+pub returns-in_default : goal.returns-in_default
+returns-in_default c =
     let last : suc (c.loop-k.k - 1) ≡ c.loop-k.k = omega arith in
     record {
       rest = c.loop-k.invariant.2;
       front = λ m lawful sound lt some.
           absurd (stranded c.args.self.now c.requires.kept c.requires.fresh c.args.start c.loop-k.list (c.loop-k.k - 1) c.loop-k.state (omega arith) (omega arith)
           (subst (λ (i : ℕ). Tracing c.args.self.now c.args.start c.loop-k.list i c.loop-k.state) (sym last) c.loop-k.invariant.3)
-          (ap (λ (i : ℕ). get_or (forward_at c.args.self.now i).survivors c.loop-k.state None) last ∙ sym c.in-default.ensures) m lawful sound lt some);
+          (ap (λ (i : ℕ). get_or (forward_at c.args.self.now i).survivors c.loop-k.state None) last ∙ sym c.in_default.ensures) m lawful sound lt some);
     }
 
 pub loop-k-preserved : goal.loop-k-preserved

@@ -19,12 +19,12 @@ shaped_by m q b shape depth is allowed shapes = record {
 pub returns : goal.returns
 returns g c =
     let m = g.C.Channel.meaning c.args.self.now.channel in
-    let shaped = c.in-ok-shape.ensures in
+    let shaped = c.in_ok-shape.ensures in
     record {
       channel = refl;
       answer = one_passes (not (depth_allowed m c.args.depth)) 7 (ap not shaped.0);
       stands = c.deepen.ensures.deepened;
-      shaped = shaped_by m c.args.depth c.deepen.new.self c.in-ok-shape.shape (ap (λ (s : Standing). s.depth) c.deepen.ensures.deepened.stands)
+      shaped = shaped_by m c.args.depth c.deepen.new.self c.in_ok-shape.shape (ap (λ (s : Standing). s.depth) c.deepen.ensures.deepened.stands)
           c.deepen.ensures.shape shaped.0 shaped.1;
       sound = λ sound. c.deepen.ensures.sound m shaped.0 shaped.1 sound;
     }
