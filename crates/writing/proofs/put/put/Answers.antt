@@ -4,7 +4,7 @@ use Rattle.std.proofs.lemmas.Slice.{take-put_mid}
 use Rattle.writing.proofs.put.put.Goals as goal
 
 pub invariant_of-draft : goal.invariant_of-draft
-invariant_of-draft c = (search (rules, places), (omega arith, tt))
+invariant_of-draft c = record { long = search (rules, places); room = omega arith }
 
 pub returns : goal.returns
 returns c =
