@@ -18,13 +18,13 @@ returns-in-Place g c =
     let w = says_place _ _ i c.in-Place.field-0 c.in-Place.is in
     inr (inr (does_say g.C.Spelled.rule 1 bare _ _ i _ _ w.0 refl))
 
-pub returns-in_err-channel : goal.returns-in_err-channel
-returns-in_err-channel g c =
-    let p = err_from_is_err_and c.from_residual-in_err-channel.result c.from_residual-in_err-channel.ensures.1 in
+pub returns-in_err-channel-in_default : goal.returns-in_err-channel-in_default
+returns-in_err-channel-in_default g c =
+    let p = err_from_is_err_and c.from_residual-in_err-channel-in_default.result c.from_residual-in_err-channel-in_default.ensures.1 in
     let i = c.in_ok-line.ensures.reads in
-    rw (p.1, p.2) (inr (inr (first_refused g.C.Spelled.rule _ _ i _ (says_channel _ _ i c.in_default.not-Depth c.in_default.not-Place) (c.in_err-channel.ensures i.form i.lawful i.says))))
+    rw (p.1, p.2) (inr (inr (first_refused g.C.Spelled.rule _ _ i _ (says_channel _ _ i c.in_default.not-Depth c.in_default.not-Place) (c.in_err-channel-in_default.ensures i.form i.lawful i.says))))
 
-pub returns-in_ok-channel : goal.returns-in_ok-channel
-returns-in_ok-channel g c =
+pub returns-in_ok-channel-in_default : goal.returns-in_ok-channel-in_default
+returns-in_ok-channel-in_default g c =
     let i = c.in_ok-line.ensures.reads in
-    first_taken g.C.Spelled.rule g.C.Spelled.form _ _ i _ (says_channel _ _ i c.in_default.not-Depth c.in_default.not-Place) (c.in_ok-channel.ensures i.form i.lawful i.says)
+    first_taken g.C.Spelled.rule g.C.Spelled.form _ _ i _ (says_channel _ _ i c.in_default.not-Depth c.in_default.not-Place) (c.in_ok-channel-in_default.ensures i.form i.lawful i.says)

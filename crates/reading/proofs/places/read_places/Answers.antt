@@ -23,8 +23,8 @@ returns-in-Err g c =
       begun = tt;
     }
 
-pub overflow-add-number : goal.overflow-add-number
-overflow-add-number g c =
+pub overflow_add-number : goal.overflow_add-number
+overflow_add-number g c =
     let some : 0 < length c.loop-rest.rest.now = search rules in
     omega (arith, c.loop-rest.invariant.0.short)
 

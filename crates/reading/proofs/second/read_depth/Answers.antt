@@ -6,31 +6,31 @@ use Rattle.reading.specs.Steps.{tuned, depth_of, a_depth, a_place, a_channel}
 use Rattle.reading.proofs.Sayings.{does_say, says_depth, says_place, says_channel, tried_taken, tried_refused, repeated_is}
 use Rattle.reading.proofs.second.read_depth.Goals as goal
 
-pub returns-in_err-receiver : goal.returns-in_err-receiver
-returns-in_err-receiver g c =
-    let p = err_from_is_err_and c.from_residual-in_err-receiver.result c.from_residual-in_err-receiver.ensures.1 in
+pub returns-in_err-receiver-in-Depth : goal.returns-in_err-receiver-in-Depth
+returns-in_err-receiver-in-Depth g c =
+    let p = err_from_is_err_and c.from_residual-in_err-receiver-in-Depth.result c.from_residual-in_err-receiver-in-Depth.ensures.1 in
     let k = g.C.Spelled.rule in
     let f = g.C.Spelled.form c.args.channel in
     let i = c.in_ok-line.ensures.reads in
     let z = c.in-Depth.depth in
     let w = says_depth _ _ i z c.in-Depth.is in
     rw (p.1, p.2) (record {
-      does = inr (inr (does_say k 2 (tuned f) _ _ i (a_depth z) _ w.0 (tried_refused k 2 f z _ _ _ (g.met.C.Spelled.meant c.args.channel) (ap depth_of (kept z w.1)) c.in_err-receiver.ensures)));
+      does = inr (inr (does_say k 2 (tuned f) _ _ i (a_depth z) _ w.0 (tried_refused k 2 f z _ _ _ (g.met.C.Spelled.meant c.args.channel) (ap depth_of (kept z w.1)) c.in_err-receiver-in-Depth.ensures)));
       begun = tt;
     })
 
-pub returns-in_ok-receiver : goal.returns-in_ok-receiver
-returns-in_ok-receiver g c =
+pub returns-in_ok-receiver-in-Depth : goal.returns-in_ok-receiver-in-Depth
+returns-in_ok-receiver-in-Depth g c =
     let k = g.C.Spelled.rule in
     let form = g.C.Spelled.form in
     let channel = c.args.channel in
     let i = c.in_ok-line.ensures.reads in
     let z = c.in-Depth.depth in
     let w = says_depth _ _ i z c.in-Depth.is in
-    let r = c.in_ok-receiver.ensures in
+    let r = c.in_ok-receiver-in-Depth.ensures in
     record {
-      does = does_say k 2 (tuned (form channel)) _ _ i (a_depth z) _ w.0 (tried_taken k 2 (form channel) z _ _ form channel c.in_ok-receiver.receiver (g.met.C.Spelled.meant channel) (ap depth_of (kept z w.1)) refl r);
-      begun = subst (λ d. Begun (g.C.Channel.meaning d) c.in_ok-receiver.receiver) (sym r.channel_is) r.begun;
+      does = does_say k 2 (tuned (form channel)) _ _ i (a_depth z) _ w.0 (tried_taken k 2 (form channel) z _ _ form channel c.in_ok-receiver-in-Depth.receiver (g.met.C.Spelled.meant channel) (ap depth_of (kept z w.1)) refl r);
+      begun = subst (λ d. Begun (g.C.Channel.meaning d) c.in_ok-receiver-in-Depth.receiver) (sym r.channel_is) r.begun;
     }
 
 pub returns-in-Place : goal.returns-in-Place

@@ -13,7 +13,7 @@ returns-in_err-receiver g c =
     let k = g.C.Spelled.rule in
     let form = g.C.Spelled.form in
     rw (p.1, p.2) (record {
-      reads = short_text k _ _ (omega arith) (bad_heads k form _ _ _ _ _ c.in_err-receiver.field-0.0 c.cut_line.ensures c.cut_line-2.ensures c.in_err-receiver.ensures.does);
+      reads = short_text k _ _ (omega arith) (bad_heads g.C.Channel k form _ _ _ _ _ c.in_err-receiver.field-0.0 c.cut_line.ensures c.cut_line-2.ensures c.in_err-receiver.ensures.does);
       begun = tt;
       one = one_answer;
     })
