@@ -1,20 +1,20 @@
 -- The kind of a text's channel, line by line, and that there is one answer.
-use Rattle.std.proofs.Common.{◌≡◌, ℕ, ◌+◌, ◌<◌, ◌≤◌, ◌⊎◌, List, [], ◌∷◌, ◌++◌, length, Some, None, Ok, Err, Option, Result, sym, refl, ap, ◌∙◌, subst, inl, inr, append_assoc, arith, length-append, MatchResult}
+use Rattle.std.proofs.Common.{◌≡◌, ℕ, ◌+◌, ◌≤◌, ◌⊎◌, List, [], ◌∷◌, ◌++◌, length, Some, None, Ok, Err, Option, Result, sym, refl, ap, ◌∙◌, subst, inl, inr, arith, length-append, MatchResult}
 use Rattle.std.specs.List.{flat_map, AllByRecursion as All}
 use Rattle.std.proofs.lemmas.List.{append-nil}
 use Rattle.std.proofs.lemmas.Bool.{cases_lt}
 use Rattle.forms.specs.Forms.{Form, taps_form, table_form, code_form, depth_form, place_form, head_of, text_of, Lawful}
 use Rattle.forms.specs.Lines.{said, held, IsForm}
 use Rattle.forms.specs.declared.head.Head.{Head}
-use Rattle.forms.specs.declared.head.Head.TheVariants.{Taps, Table, Code, Depth, Place}
+use Rattle.forms.specs.declared.head.Head.TheVariants.{Depth, Place}
 use Rattle.forms.specs.declared.line.Line.{Line}
 use Rattle.text.specs.declared.fault.Cause.{Cause}
 use Rattle.text.specs.declared.fault.Cause.TheVariants.{Text}
 use Rattle.text.specs.declared.fault.Fault.{Fault}
-use Rattle.text.specs.declared.fault.Malformed.TheVariants.{NotAForm, Heads, TooLong}
+use Rattle.text.specs.declared.fault.Malformed.TheVariants.{Heads}
 use Rattle.text.specs.declared.kind.Kind.{Kind}
 use Rattle.text.specs.Cutting.{CutsLine}
-use Rattle.text.specs.Kinds.{kind_of, Begins, NoForm, Misplaced, Blames, Found, FindsKind, KindHasOneAnswer, ReadsHead}
+use Rattle.text.specs.Kinds.{kind_of, Begins, NoForm, Misplaced, Blames, Found, KindHasOneAnswer, ReadsHead}
 use Rattle.text.proofs.Feeds.{same_start, some_form, first_is, none_left}
 
 -- a line begins as the form that it was read from

@@ -1,5 +1,5 @@
 -- Finding the kind of a text's channel: which line decides it, or is blamed.
-use Rattle.std.specs.Prelude.{◌≡◌, ℕ, ◌+◌, ◌<◌, ◌≤◌, ◌⊎◌, List, [], ◌∷◌, ◌++◌, length, Some, None, Ok, Err, Option, Result, MatchResult, ◌≢◌}
+use Rattle.std.specs.Prelude.{◌≡◌, ℕ, ◌+◌, ◌<◌, ◌≤◌, ◌⊎◌, List, [], ◌++◌, length, Some, None, Ok, Err, Option, Result, MatchResult, ◌≢◌}
 use Rattle.std.specs.List.{flat_map, AllByRecursion as All}
 use Rattle.forms.specs.Forms.{Form, head_of, text_of, Lawful}
 use Rattle.forms.specs.declared.head.Head.{Head}

@@ -1,4 +1,4 @@
-use Rattle.std.proofs.Common.{◌≡◌, length, take, inr, arith}
+use Rattle.std.proofs.Common.{length, inr, arith}
 use Rattle.std.proofs.lemmas.List.{take_all, drop_all}
 use Rattle.std.proofs.ByRecursion.{All-more}
 use Rattle.std.specs.List.{AllByRecursion as All}
