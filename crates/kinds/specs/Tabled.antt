@@ -8,7 +8,6 @@ use Rattle.std.proofs.lemmas.Int.{ints}
 use Rattle.std.proofs.lemmas.Bool.{cases_lt}
 use Rattle.std.proofs.lemmas.Bool.Decides.{nat_tests}
 use Rattle.channel.specs.Distances.{in_noise_range}
-use Rattle.channel.specs.Samples.{between}
 use Rattle.numerals.specs.Numbers.{SevenDigits}
 use Rattle.table.specs.Entries.{entry_in_range, number_in_range, each_in_range}
 use Rattle.table.specs.Held.{memory_of, entries_of, noise_of}
