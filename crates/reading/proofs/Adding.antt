@@ -1,20 +1,18 @@
 -- A place that is added where both heads stand.
-use Rattle.std.proofs.Common.{◌≡◌, ℕ, ◌+◌, ◌≤◌, Bool, true, false, cond, not, ◌&&◌, eqb, leb, ◌⊎◌, List, [], ◌∷◌, ◌++◌, length, take, ℤ, Some, None, Ok, Err, MatchBool, Option, Result, sym, refl, ap, ◌∙◌, subst, inl, inr, arith, length-take, eq-eqb}
+use Rattle.std.proofs.Common.{◌≡◌, ℕ, Bool, true, cond, not, ◌&&◌, leb, List, [], ◌∷◌, ◌++◌, length, ℤ, Some, None, Ok, Err, MatchBool, Option, Result, sym, ap, ◌∙◌, subst, inr, arith, length-take, eq-eqb}
 use Rattle.std.proofs.lemmas.List.{length_push}
 use Rattle.std.proofs.lemmas.Bool.Decides.{nat_tests}
 use Rattle.channel.specs.Meaning.{Meaning, taken}
 use Rattle.channel.specs.Refusals.{first_of}
-use Rattle.channel.specs.declared.sample.Sample.{Sample}
 use Rattle.channel.specs.declared.Channel.{Ghosts}
 use Rattle.burst.specs.Places.{priors_allowed}
 use Rattle.burst.specs.declared.place.Place.{Place}
-use Rattle.burst.specs.declared.priors.Priors.{Priors}
 use Rattle.receiver.specs.Bursts.{places_of}
 use Rattle.receiver.specs.Changes.{Added}
 use Rattle.receiver.specs.Sound.{Sound}
 use Rattle.receiver.specs.Standing.{add_refusal}
 use Rattle.receiver.specs.declared.receiver.Receiver.{Receiver}
-use Rattle.forms.specs.Forms.{Form, place_form, Lawful}
+use Rattle.forms.specs.Forms.{Form}
 use Rattle.forms.specs.Lines.{priors_in, IsForm}
 use Rattle.forms.specs.declared.line.Line.{Line}
 use Rattle.forms.specs.declared.line.Line.TheVariants.{Place as APlace}
@@ -26,7 +24,7 @@ use Rattle.kinds.specs.Rules.{Rule, told_by}
 use Rattle.reading.specs.Lines.{At}
 use Rattle.reading.specs.Places.{all_fit, priors_of, place_of, place_refusal, Hands}
 use Rattle.reading.specs.Received.{state_of, Begun, AddsPlace}
-use Rattle.reading.specs.Steps.{Blame, State, ready, blamed, unless, received, a_place, after_heads}
+use Rattle.reading.specs.Steps.{ready, blamed, unless, received, a_place, after_heads}
 use Rattle.reading.proofs.Numbering.{handed_allowed}
 use Rattle.reading.proofs.Sayings.{does_say, says_place}
 

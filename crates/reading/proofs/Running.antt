@@ -1,11 +1,11 @@
 -- Lines taken one after another.
-use Rattle.std.proofs.Common.{◌≡◌, ℕ, ◌+◌, ◌<◌, ◌≤◌, ◌⊎◌, List, [], ◌∷◌, ◌++◌, length, Ok, Err, Result, sym, refl, ap, ◌∙◌, subst, inl, inr, append_assoc, arith, length-append}
+use Rattle.std.proofs.Common.{◌≡◌, ℕ, ◌+◌, ◌<◌, ◌≤◌, List, [], ◌∷◌, ◌++◌, length, Ok, Err, Result, sym, refl, ap, ◌∙◌, subst, inl, inr, append_assoc, arith, length-append}
 use Rattle.std.specs.List.{flat_map, AllByRecursion as All}
 use Rattle.std.proofs.ByRecursion.{All-push}
 use Rattle.std.proofs.lemmas.List.{flat_map_more, length_push, nil_from_length}
 use Rattle.forms.specs.Forms.{Form, text_of, Lawful}
 use Rattle.text.specs.Cutting.{CutsLine}
-use Rattle.text.specs.Kinds.{Begins, NoForm}
+use Rattle.text.specs.Kinds.{Begins}
 use Rattle.text.proofs.Feeds.{first_is, none_left}
 use Rattle.kinds.specs.Rules.{Rule}
 use Rattle.channel.specs.declared.Channel.{Ghosts}

@@ -1,5 +1,5 @@
 -- What a line says, and what that does.
-use Rattle.std.proofs.Common.{◌≡◌, ℕ, ◌<◌, cond, ◌⊎◌, List, [], length, ℤ, Some, None, Ok, Err, Option, Result, sym, refl, ap, ◌∙◌, subst, inl, inr, arith, MatchResult}
+use Rattle.std.proofs.Common.{◌≡◌, ℕ, cond, List, [], ℤ, Some, None, Ok, Err, Result, sym, refl, ap, ◌∙◌, subst, inr, arith, MatchResult}
 use Rattle.forms.specs.Forms.{Form, taps_form, table_form, code_form, depth_form, place_form, head_of, text_of, Lawful}
 use Rattle.forms.specs.Lines.{said, held, priors_in, IsForm}
 use Rattle.forms.specs.declared.line.Line.{Line}

@@ -1,13 +1,13 @@
 -- A text has one answer.
-use Rattle.std.proofs.Common.{◌≡◌, ℕ, ◌+◌, ◌<◌, ◌≤◌, ◌⊎◌, List, [], ◌∷◌, ◌++◌, length, Ok, Err, Result, sym, refl, ap, ◌∙◌, subst, inl, inr, append_assoc, arith, length-append, MatchResult}
+use Rattle.std.proofs.Common.{◌≡◌, ℕ, ◌+◌, List, [], ◌∷◌, ◌++◌, length, Ok, Err, Result, sym, refl, ap, ◌∙◌, subst, inl, inr, append_assoc, arith, length-append, MatchResult}
 use Rattle.std.specs.List.{flat_map, AllByRecursion as All}
 use Rattle.std.proofs.lemmas.Bool.{cases_lt}
 use Rattle.forms.specs.Forms.{Form, text_of, Lawful}
-use Rattle.text.specs.Kinds.{Begins, NoForm}
+use Rattle.text.specs.Kinds.{Begins}
 use Rattle.text.proofs.Feeds.{same_start, some_form}
 use Rattle.kinds.specs.Rules.{Rule}
 use Rattle.reading.specs.Steps.{Blame, State, bare, step}
-use Rattle.reading.specs.Texts.{Runs, IsReady, Blames, by_text, ReadsFrom, ReadsText, TextHasOneAnswer}
+use Rattle.reading.specs.Texts.{Runs, IsReady, Blames, ReadsFrom, TextHasOneAnswer}
 
 one_form : (f g : Form) (text : List ℕ) → Begins f text → Begins g text → f ≡ g
 one_form f g text a b = (same_start f g a.after b.after a.lawful b.lawful (sym a.parts ∙ b.parts)).0

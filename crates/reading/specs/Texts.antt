@@ -1,10 +1,8 @@
 -- Reading a whole text: its lines in turn, up to the first that is blamed.
 use Rattle.std.specs.Prelude.{◌≡◌, ℕ, ◌+◌, ◌<◌, ◌≤◌, ◌⊎◌, List, [], ◌∷◌, ◌++◌, length, Ok, Err, Result, MatchResult}
 use Rattle.std.specs.List.{flat_map, AllByRecursion as All}
-use Rattle.burst.specs.declared.place.Place.{Place}
 use Rattle.forms.specs.Forms.{Form, text_of, Lawful}
 use Rattle.text.specs.Kinds.{Begins, NoForm}
-use Rattle.text.specs.declared.fault.Layer.{Layer}
 use Rattle.text.specs.declared.fault.Layer.TheVariants.{Text}
 use Rattle.kinds.specs.Rules.{Rule}
 use Rattle.reading.specs.Steps.{Blame, State, bare, tuned, deep, ready, step}

@@ -1,10 +1,8 @@
 -- The text of a receiver reads back as what stands in it.
-use Rattle.std.proofs.Common.{◌≡◌, ℕ, ◌+◌, ◌*◌, ◌^◌, ◌<◌, ◌≤◌, Bool, true, false, cond, not, ◌&&◌, eqb, leb, ◌⊎◌, List, [], ◌∷◌, ◌++◌, map, length, get_or, take, ℤ, pos, negsuc, nat_abs, Some, None, Ok, Err, codes, Option, Result, sym, refl, ap, ◌∙◌, subst, inl, inr, append_assoc, arith, length-append, length-take, eq-eqb}
-use lib.Signed.{mag}
+use Rattle.std.proofs.Common.{◌≡◌, ℕ, ◌+◌, ◌*◌, ◌<◌, ◌≤◌, Bool, true, false, cond, not, ◌&&◌, leb, ◌⊎◌, List, [], ◌∷◌, ◌++◌, map, length, take, ℤ, pos, negsuc, nat_abs, None, Ok, codes, sym, refl, ap, ◌∙◌, subst, inl, inr, append_assoc, arith, length-append, eq-eqb}
 use Rattle.std.specs.Fmt.{signed_decimal}
 use Rattle.std.specs.List.{flat_map, AllByRecursion as All}
 use Rattle.std.proofs.lemmas.Fmt.{length_signed_le, length-decimal-le}
-use Rattle.std.proofs.ByRecursion.{All-from_get_or, All-get_or}
 use Rattle.std.proofs.lemmas.List.{append-nil, length_push}
 use Rattle.std.proofs.lemmas.Int.{ints}
 use Rattle.std.proofs.lemmas.Bool.Decides.{nat_tests}
@@ -13,22 +11,18 @@ use Rattle.channel.specs.Refusals.{first_of}
 use Rattle.channel.specs.Samples.{between, in_range}
 use Rattle.channel.specs.declared.sample.Sample.{Sample}
 use Rattle.burst.specs.Places.{priors_allowed}
-use Rattle.burst.specs.Sequences.{place_at}
 use Rattle.burst.specs.declared.place.Place.{Place}
 use Rattle.burst.proofs.Sizes.{short_memory}
 use Rattle.recursions.specs.Depths.{depth_allowed}
 use Rattle.receiver.specs.Sound.{Fits}
-use Rattle.receiver.specs.Standing.{depth_refusal}
 use Rattle.numerals.specs.Numbers.{SevenDigits}
-use Rattle.forms.specs.Forms.{Form, taps_form, table_form, code_form, depth_form, place_form, head_of, text_of, Lawful, opening, feed, listed, prior_text, PriorLawful}
-use Rattle.forms.specs.declared.head.Head.TheVariants as heads
+use Rattle.forms.specs.Forms.{Form, taps_form, table_form, code_form, depth_form, place_form, text_of, Lawful, feed, listed, prior_text}
 use Rattle.forms.specs.declared.prior.Prior.{Prior}
-use Rattle.text.specs.Kinds.{kind_of}
 use Rattle.text.specs.declared.fault.Layer.TheVariants.{Text}
-use Rattle.kinds.specs.Rules.{Rule, is_kind, of_kind, line_refusal, Loads}
+use Rattle.kinds.specs.Rules.{Rule, line_refusal, Loads}
 use Rattle.reading.specs.Places.{all_fit, priors_of, place_of, place_refusal}
-use Rattle.reading.specs.Steps.{Blame, State, bare, tuned, ready, blamed, unless, received, a_channel, saying, tried, step}
-use Rattle.reading.specs.Texts.{Runs, ReadsFrom, ReadsText}
+use Rattle.reading.specs.Steps.{bare, tuned, ready, blamed, unless, received, a_channel, saying, step}
+use Rattle.reading.specs.Texts.{Runs, ReadsText}
 use Rattle.writing.specs.Written.{of_prior, of_depth, of_place, places_text}
 use Rattle.transcript.proofs.Priors.{Kept, kept}
 

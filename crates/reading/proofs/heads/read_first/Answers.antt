@@ -1,7 +1,7 @@
 use Rattle.std.proofs.Common.{Ok, sym, refl, ap, inr}
 use Rattle.std.proofs.lemmas.Result.{err_from_is_err_and}
 use Rattle.forms.specs.Telling.{kept}
-use Rattle.reading.specs.Steps.{bare, deep, a_depth, a_place}
+use Rattle.reading.specs.Steps.{bare, deep, a_depth}
 use Rattle.reading.proofs.Sayings.{does_say, says_depth, says_place, says_channel, first_taken, first_refused}
 use Rattle.reading.proofs.heads.read_first.Goals as goal
 

@@ -1,4 +1,4 @@
-use Rattle.std.proofs.Common.{◌≡◌, ◌<◌, [], length, ap, arith, rules}
+use Rattle.std.proofs.Common.{◌≡◌, ◌<◌, length, ap, arith, rules}
 use Rattle.reading.specs.Received.{state_of}
 use Rattle.reading.proofs.Running.{so_none, so_more, some_line, shorter, blame_is, so_blamed, so_all}
 use Rattle.reading.proofs.places.read_places.Goals as goal

@@ -2,7 +2,7 @@ use Rattle.std.proofs.Common.{sym, refl, ap, subst, inr}
 use Rattle.std.proofs.lemmas.Result.{err_from_is_err_and}
 use Rattle.forms.specs.Telling.{kept}
 use Rattle.reading.specs.Received.{Begun}
-use Rattle.reading.specs.Steps.{tuned, depth_of, a_depth, a_place, a_channel}
+use Rattle.reading.specs.Steps.{tuned, depth_of, a_depth, a_channel}
 use Rattle.reading.proofs.Sayings.{does_say, says_depth, says_place, says_channel, tried_taken, tried_refused, repeated_is}
 use Rattle.reading.proofs.second.read_depth.Goals as goal
 

@@ -1,7 +1,7 @@
-use Rattle.std.proofs.Common.{◌++◌, codes, decimal, ap, arith}
+use Rattle.std.proofs.Common.{codes, decimal, ap, arith}
 use Rattle.std.specs.Fmt.{signed_decimal}
-use Rattle.forms.specs.Forms.{feed, listed, entry_text, opening}
-use Rattle.forms.specs.declared.head.Head.TheVariants.{Taps, Table, Code, Depth, Place}
+use Rattle.forms.specs.Forms.{listed, opening}
+use Rattle.forms.specs.declared.head.Head.TheVariants.{Taps}
 use Rattle.writing.proofs.Adding.{adds_then, adds_as, few}
 use Rattle.writing.proofs.channels.put_taps.Goals as goal
 

@@ -1,4 +1,4 @@
-use Rattle.std.proofs.Common.{◌≡◌, length, decimal, ap, ◌∙◌, arith}
+use Rattle.std.proofs.Common.{length, ap, ◌∙◌, arith}
 use Rattle.writing.proofs.Adding.{decimal_short, adds_as}
 use Rattle.writing.proofs.numbers.put_count.Goals as goal
 

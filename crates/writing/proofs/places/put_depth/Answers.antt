@@ -1,8 +1,7 @@
-use Rattle.std.proofs.Common.{◌++◌, codes, decimal, ap, arith}
-use Rattle.std.specs.Fmt.{signed_decimal}
-use Rattle.forms.specs.Forms.{feed, listed, entry_text, opening}
-use Rattle.forms.specs.declared.head.Head.TheVariants.{Taps, Table, Code, Depth, Place}
-use Rattle.writing.proofs.Adding.{adds_then, adds_as}
+use Rattle.std.proofs.Common.{◌++◌, codes, decimal, arith}
+use Rattle.forms.specs.Forms.{feed, opening}
+use Rattle.forms.specs.declared.head.Head.TheVariants.{Depth}
+use Rattle.writing.proofs.Adding.{adds_then}
 use Rattle.writing.proofs.places.put_depth.Goals as goal
 
 pub returns : goal.returns

@@ -1,4 +1,4 @@
-use Rattle.std.proofs.Common.{◌≡◌, ◌-◌, ◌^◌, ◌<◌, ◌++◌, map, length, take, codes, ap, arith, length-take, rules}
+use Rattle.std.proofs.Common.{◌-◌, ◌^◌, ◌<◌, codes, ap, arith, length-take, rules}
 use lib.Signed.{mag}
 use Rattle.std.specs.Fmt.{signed_decimal}
 use Rattle.forms.specs.Forms.{listed, prior_text, opening}

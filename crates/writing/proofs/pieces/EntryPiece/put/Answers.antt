@@ -1,4 +1,4 @@
-use Rattle.std.proofs.Common.{◌≡◌, ◌^◌, ◌<◌, sym, ap, arith, rules}
+use Rattle.std.proofs.Common.{◌^◌, ◌<◌, sym, ap, arith, rules}
 use lib.Signed.{mag}
 use Rattle.std.specs.Fmt.{signed_decimal}
 use Rattle.forms.specs.Forms.{entry_text}
