@@ -1,6 +1,6 @@
 -- Lines taken one after another.
 use Rattle.std.proofs.Common.{◌≡◌, ℕ, ◌+◌, ◌<◌, ◌≤◌, List, [], ◌∷◌, ◌++◌, length, Ok, Err, Result, sym, refl, ap, ◌∙◌, subst, inl, inr, append_assoc, arith, length-append}
-use Rattle.std.specs.List.{flat_map, AllByRecursion as All}
+use Rattle.std.specs.List.{flat_map, AllByRecursion}
 use Rattle.std.proofs.ByRecursion.{All-push}
 use Rattle.std.proofs.lemmas.List.{flat_map_more, length_push, nil_from_length}
 use Rattle.forms.specs.Forms.{Form, text_of, Lawful}
@@ -19,7 +19,7 @@ use Rattle.reading.specs.Texts.{Runs, IsReady, Blames, ReadsFrom, ReadsText}
 -- what has been read
 pub record SoFar (k : Rule) (start : ℕ) (s : State) (text : List ℕ) (n : ℕ) (t : State) (rest : List ℕ) : Type 0 where
   pub forms : List Form
-  pub lawful : All Lawful forms
+  pub lawful : AllByRecursion Lawful forms
   pub parts : text ≡ flat_map text_of forms ++ rest
   pub run : Runs k start s forms t
   pub counted : n ≡ start + length forms

@@ -1,6 +1,6 @@
 -- The kind of a text's channel, line by line, and that there is one answer.
 use Rattle.std.proofs.Common.{◌≡◌, ℕ, ◌+◌, ◌≤◌, ◌⊎◌, List, [], ◌∷◌, ◌++◌, length, Some, None, Ok, Err, Option, Result, sym, refl, ap, ◌∙◌, subst, inl, inr, arith, length-append, MatchResult}
-use Rattle.std.specs.List.{flat_map, AllByRecursion as All}
+use Rattle.std.specs.List.{flat_map, AllByRecursion}
 use Rattle.std.proofs.lemmas.List.{append-nil}
 use Rattle.std.proofs.lemmas.Bool.{cases_lt}
 use Rattle.forms.specs.Forms.{Form, taps_form, table_form, code_form, depth_form, place_form, head_of, text_of, Lawful}
@@ -31,7 +31,7 @@ read_head text line k = sym (ap head_of k.says ∙ held_head k.form)
 -- the depth lines before the rest of a text
 pub record Before (text rest : List ℕ) (depths : List Form) : Type 0 where
   pub parts : text ≡ flat_map text_of depths ++ rest
-  pub all_depths : All (λ f. Lawful f × (head_of f ≡ Depth)) depths
+  pub all_depths : AllByRecursion (λ f. Lawful f × (head_of f ≡ Depth)) depths
   pub one_at_most : length depths ≤ 1
 
 pub none_before : (text : List ℕ) → Before text text []
@@ -164,7 +164,7 @@ begins_with : (d : Form) (text rest : List ℕ) → Lawful d → text ≡ (text_
 begins_with d text rest l e = record { after = rest; lawful = l; parts = e ∙ ap (λ k. k ++ rest) (append-nil (text_of d)) }
 
 abbrev Depths : List Form → Type 0
-Depths fs = All (λ f. Lawful f × (head_of f ≡ Depth)) fs
+Depths fs = AllByRecursion (λ f. Lawful f × (head_of f ≡ Depth)) fs
 
 meet :
     (text : List ℕ) (fs gs : List Form) (x y : List ℕ) (r s : Result Kind Fault) → text ≡ flat_map text_of fs ++ x → text ≡ flat_map text_of gs ++ y
