@@ -5,7 +5,7 @@ use Rattle.std.specs.Str.Parse.{AllDigits, digits_value}
 use Rattle.std.specs.Int.{IsInRange}
 use Rattle.std.specs.Char.{digit_value}
 use Rattle.std.specs.Fmt.{signed_decimal}
-use Rattle.std.specs.List.{AllByRecursion as All}
+use Rattle.std.specs.List.{AllByRecursion}
 use Rattle.std.proofs.lemmas.Int.Digits.{digits_value_more, digits_more}
 use Rattle.std.proofs.ByRecursion.{All-from_get_or}
 use Rattle.std.proofs.lemmas.Str.{digit_value_digit}
@@ -84,11 +84,11 @@ minus_none text rest e none (pos n) h f = first_no_minus n h (ap (λ l. get_or l
 minus_none text rest e none (negsuc n) h f = none (suc n) h (omega arith) (ap (drop 1) (sym e ∙ f))
 
 -- what holds of every digit and of the minus holds of every byte of a number
-all_of_decimal : (P : ℕ → Type 0) → ((c : ℕ) → IsInRange 48 57 c → P c) → (n : ℕ) → n < 2 ^ 64 → All P (decimal n)
+all_of_decimal : (P : ℕ → Type 0) → ((c : ℕ) → IsInRange 48 57 c → P c) → (n : ℕ) → n < 2 ^ 64 → AllByRecursion P (decimal n)
 all_of_decimal P each n h =
     All-from_get_or P (decimal n) 0 (λ i l. each (get_or (decimal n) i 0) (digit_at (decimal n) i (digits_decimal own n h) l))
 
-pub all_of_number : (P : ℕ → Type 0) → ((c : ℕ) → IsInRange 48 57 c → P c) → P 45 → (z : ℤ) → SevenDigits z → All P (signed_decimal z)
+pub all_of_number : (P : ℕ → Type 0) → ((c : ℕ) → IsInRange 48 57 c → P c) → P 45 → (z : ℤ) → SevenDigits z → AllByRecursion P (signed_decimal z)
 all_of_number P each minus (pos n) h = all_of_decimal P each n (omega arith)
 all_of_number P each minus (negsuc n) h = (minus, all_of_decimal P each (suc n) (omega arith))
 
