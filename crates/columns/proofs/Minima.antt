@@ -1,5 +1,5 @@
 -- The least of so many numbers stands for the least of their costs.
-use Rattle.std.proofs.Common.{◌≡◌, ℕ, zero, suc, ◌+◌, ◌<◌, ◌≤◌, min, ◌⊎◌, sym, refl, ap, ◌∙◌, ap₂, inl, inr, add-one, arith}
+use Rattle.std.proofs.Common.{◌≡◌, ℕ, zero, suc, ◌+◌, ◌<◌, ◌≤◌, min, ◌⊎◌, sym, refl, ap, ◌∙◌, inl, inr, add-one, arith}
 use Rattle.cost.specs.Arithmetic.{least}
 use Rattle.joining.specs.Costs.{cost_operations}
 use Rattle.trellis.specs.Sequences.{join_below}

@@ -12,7 +12,6 @@ use Rattle.trellis.proofs.Below.{below_cong}
 use Rattle.recursions.specs.Depths.{states}
 use Rattle.recursions.specs.Forward.{Cell, weight, via, next}
 use Rattle.recursions.specs.Backward.{cost_at, onward, backstep}
-use Rattle.recursions.specs.Answers.{meeting}
 use Rattle.recursions.proofs.Locality.{counted_same}
 use Rattle.columns.specs.Numbers.{as_cost, Within}
 use Rattle.columns.specs.Cells.{cells_of, costs_of, CostsWithin}

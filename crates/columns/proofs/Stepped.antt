@@ -1,11 +1,11 @@
 -- A column whose states are all entered is the rule's step.
-use Rattle.std.proofs.Common.{◌≡◌, ℕ, ◌+◌, ◌/◌, ◌<◌, ◌≤◌, List, length, get_or, sym, ap, ◌∙◌, subst, inl, inr, arith}
+use Rattle.std.proofs.Common.{◌≡◌, ℕ, ◌+◌, ◌/◌, ◌<◌, ◌≤◌, List, length, get_or, sym, ap, subst, inl, inr, arith}
 use Rattle.std.proofs.lemmas.Bool.{cases_lt}
 use Rattle.channel.specs.Meaning.{Meaning}
 use Rattle.burst.specs.Histories.{histories}
 use Rattle.burst.specs.declared.place.Place.{Place}
 use Rattle.recursions.specs.Depths.{states}
-use Rattle.recursions.specs.Forward.{Cell, cell_at, cell_of, least_into, step}
+use Rattle.recursions.specs.Forward.{Cell, cell_of, least_into, step}
 use Rattle.recursions.proofs.Locality.{counted_same}
 use Rattle.columns.specs.Numbers.{as_cost, Within}
 use Rattle.columns.specs.Arrivals.{Arrived, Entered, entry_at}

@@ -1,6 +1,5 @@
 -- Sums and weights of stored numbers are the rule's, over the cells that a stored column has.
-use Rattle.std.proofs.Common.{◌≡◌, ℕ, ◌+◌, ◌*◌, ◌/◌, ◌%◌, ◌<◌, ◌≤◌, min, List, get_or, None, sym, refl, ap, ◌∙◌, subst, ap₂, div-lt_iff_lt-mul, arith}
-use Rattle.cost.specs.declared.Cost.{Cost}
+use Rattle.std.proofs.Common.{◌≡◌, ℕ, ◌+◌, ◌*◌, ◌/◌, ◌%◌, ◌<◌, ◌≤◌, List, get_or, sym, ap, ◌∙◌, subst, ap₂, div-lt_iff_lt-mul, arith}
 use Rattle.cost.specs.declared.Cost.TheVariants.{Barred}
 use Rattle.cost.specs.Arithmetic.{plus}
 use Rattle.channel.specs.Meaning.{Meaning, cost_of}
@@ -18,7 +17,6 @@ use Rattle.columns.specs.declared.column.Column.{Column}
 use Rattle.columns.specs.declared.shape.Shape.{Shape}
 use Rattle.columns.proofs.Every as every
 use Rattle.columns.proofs.Numbers.{sum_as_cost, sum_within}
-use Rattle.columns.proofs.Pairs.{state_below}
 
 -- a state's cell
 pub cell_at_lem : (n : ℕ) (column : Column) (s : ℕ) → s < n → cell_at (cells_of n column) s ≡ stored_cell column s

@@ -1,4 +1,4 @@
-use Rattle.std.proofs.Common.{◌≡◌, ℕ, ◌+◌, ◌*◌, ◌<◌, ◌≢◌, length, ◌∙◌, arith, length-set, get_or-set_other}
+use Rattle.std.proofs.Common.{◌≡◌, ◌+◌, ◌*◌, ◌<◌, ◌≢◌, length, ◌∙◌, arith, length-set, get_or-set_other}
 use Rattle.columns.specs.Pairs.{min_below, onward_sum}
 use Rattle.columns.proofs.Fills.{set_more}
 use Rattle.columns.proofs.Onward.{backstepped_by, backstepped_within}

@@ -1,5 +1,4 @@
 use Rattle.std.proofs.Common.{arith}
-use Rattle.columns.proofs.Numbers.{within_top}
 use Rattle.columns.proofs.Onward.{met_by, met_within}
 use Rattle.columns.proofs.backward.meeting.Goals as goal
 

@@ -1,4 +1,4 @@
-use Rattle.std.proofs.Common.{◌≡◌, ℕ, Bool, eqb, get_or, sym, arith}
+use Rattle.std.proofs.Common.{eqb, get_or, sym, arith}
 use Rattle.std.proofs.lemmas.Bool.{eq-eqb}
 use Rattle.recursions.proofs.Firsts.{first_is, first_none}
 use Rattle.columns.proofs.ends.first_with.Goals as goal

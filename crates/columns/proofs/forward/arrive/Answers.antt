@@ -1,5 +1,4 @@
-use Rattle.std.proofs.Common.{ℕ, ◌/◌, ◌<◌, arith}
-use Rattle.columns.specs.Pairs.{pairs}
+use Rattle.std.proofs.Common.{arith}
 use Rattle.columns.proofs.Pairs.{state_of_lem}
 use Rattle.columns.proofs.Picks.{picked_below}
 use Rattle.columns.proofs.forward.arrive.Goals as goal

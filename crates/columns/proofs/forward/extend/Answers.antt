@@ -1,7 +1,5 @@
-use Rattle.std.proofs.Common.{◌≡◌, ℕ, ◌/◌, ◌<◌, length, get_or, refl, ap, ◌∙◌, arith, length-set}
-use Rattle.columns.specs.Pairs.{sum}
+use Rattle.std.proofs.Common.{arith}
 use Rattle.columns.proofs.Pairs.{state_of_lem}
-use Rattle.columns.proofs.Fills.{set_more}
 use Rattle.columns.proofs.forward.extend.Goals as goal
 
 pub bounds-column-pair : goal.bounds-column-pair

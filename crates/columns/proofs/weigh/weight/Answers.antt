@@ -1,4 +1,4 @@
-use Rattle.std.proofs.Common.{◌≡◌, ℕ, ◌+◌, ◌≤◌, sym, ◌∙◌, ap₂, arith}
+use Rattle.std.proofs.Common.{◌+◌, ◌≤◌, sym, ◌∙◌, ap₂, arith}
 use Rattle.cost.specs.Arithmetic.{plus}
 use Rattle.columns.proofs.Numbers.{as_eighths, within_low}
 use Rattle.columns.proofs.weigh.weight.Goals as goal

@@ -28,7 +28,7 @@ loop-i-preserved g c =
           (inv.2 sound) (says (inv.2 sound).sound),
       λ sound.
           hears_next m' list i c.index-list-i.result c.index-list-i.is in_list c.args.other.now.burst c.loop-i.other.burst
-          c.obey-in-loop-i.new.receiver.burst c.args.other-bytes.now c.loop-i.other-bytes c.obey-in-loop-i.new.bytes (other_said i heard) _
+          c.obey-in-loop-i.new.receiver.burst c.args.other_bytes.now c.loop-i.other_bytes c.obey-in-loop-i.new.bytes (other_said i heard) _
           c.obey-in-loop-i.result (said_more (λ (x : Heard). x.other) heard i h in-heard) (inv.3 sound) (says' (inv.3 sound).sound),
     )
 
@@ -45,6 +45,6 @@ returns g c =
           subst (λ (n : ℕ). Hears m (take n list) c.args.one.now.burst c.loop-i.one.burst c.args.bytes.now c.loop-i.bytes (one_said n heard)) done
           (c.loop-i.invariant.2 sound);
       other = λ sound.
-          subst (λ (n : ℕ). Hears m' (take n list) c.args.other.now.burst c.loop-i.other.burst c.args.other-bytes.now c.loop-i.other-bytes (other_said n heard)) done
+          subst (λ (n : ℕ). Hears m' (take n list) c.args.other.now.burst c.loop-i.other.burst c.args.other_bytes.now c.loop-i.other_bytes (other_said n heard)) done
           (c.loop-i.invariant.3 sound);
     }

@@ -13,4 +13,4 @@ invariant-loop-i g l =
     × (Sound m l.initial.one.burst
     → Hears m (take l.i l.list) l.initial.one.burst l.one.burst l.initial.bytes l.bytes (one_said l.i l.heard))
     × (Sound m' l.initial.other.burst
-    → Hears m' (take l.i l.list) l.initial.other.burst l.other.burst l.initial.other-bytes l.other-bytes (other_said l.i l.heard))
+    → Hears m' (take l.i l.list) l.initial.other.burst l.other.burst l.initial.other_bytes l.other_bytes (other_said l.i l.heard))

@@ -40,7 +40,7 @@ returns g c =
     c.args.bytes.now c.hear-heard.new.bytes said hears in
     let goes' =
     goes_on m' (given m' (settled s)) two.burst settled-two.burst c.hear-heard.new.other.burst stands' long' c.settle-renewed.result settle'.count settle'.left
-    sound' further c.args.other-bytes.now c.hear-heard.new.other-bytes said' hears' in
+    sound' further c.args.other_bytes.now c.hear-heard.new.other_bytes said' hears' in
     let within : s.backward ≤ length s.places =
     subst (λ (x : Standing). x.backward ≤ length x.places) stands (omega (arith, long, one.behind)) in
     let allowed = subst (λ (x : Standing). depth_allowed m x.depth ≡ true) after sound.sound.shaped.allowed in
@@ -50,7 +50,7 @@ returns g c =
       renewed = goes';
       alike = λ means same.
           alike_by m m' means s settled-one.burst after sound.sound (places_held settled-one.burst settled-one.places settled-one.few) settled-one.few within further
-          c.settle-worked.result c.settle-renewed.result said said' c.args.bytes.now c.args.other-bytes.now c.hear-heard.new.bytes
-          c.hear-heard.new.other-bytes same goes goes';
+          c.settle-worked.result c.settle-renewed.result said said' c.args.bytes.now c.args.other_bytes.now c.hear-heard.new.bytes
+          c.hear-heard.new.other_bytes same goes goes';
       sequences = always_of_sequences m (g.met.C.Channel.lawful c.args.channel) (settled s) allowed;
     }

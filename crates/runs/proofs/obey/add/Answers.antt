@@ -9,6 +9,6 @@ returns g c =
     record {
       channel = did.channel;
       obeyed = λ sound.
-          add_obeys m self.burst c.add.new.self.burst (places_held self.burst self.places self.few) c.add.result c.told-done.result
-          c.told-done.ensures (did.sound sound) c.args.place did.answer did.stands;
+          add_obeys m self.burst c.add.new.self.burst (places_held self.burst self.places self.few) c.add.result c.told_done.result
+          c.told_done.ensures (did.sound sound) c.args.place did.answer did.stands;
     }

@@ -9,6 +9,6 @@ returns g c =
     record {
       channel = did.channel;
       obeyed = λ sound.
-          cut_obeys m self.burst c.cut.new.self.burst (places_held self.burst self.places self.few) c.cut.result c.told-done.result
-          c.told-done.ensures (did.sound sound) c.args.n did.answer did.stands;
+          cut_obeys m self.burst c.cut.new.self.burst (places_held self.burst self.places self.few) c.cut.result c.told_done.result
+          c.told_done.ensures (did.sound sound) c.args.n did.answer did.stands;
     }

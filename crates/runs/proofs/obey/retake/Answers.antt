@@ -9,6 +9,6 @@ returns g c =
     record {
       channel = did.channel;
       obeyed = λ sound.
-          retake_obeys m self.burst c.retake.new.self.burst (places_held self.burst self.places self.few) c.retake.result c.told-done.result
-          c.told-done.ensures (did.sound sound) c.args.place c.args.sample did.answer did.stands;
+          retake_obeys m self.burst c.retake.new.self.burst (places_held self.burst self.places self.few) c.retake.result c.told_done.result
+          c.told_done.ensures (did.sound sound) c.args.place c.args.sample did.answer did.stands;
     }

@@ -9,6 +9,6 @@ returns g c =
     record {
       channel = did.channel;
       obeyed = λ sound.
-          reweigh_obeys m self.burst c.reweigh.new.self.burst (places_held self.burst self.places self.few) c.reweigh.result c.told-done.result
-          c.told-done.ensures (did.sound sound) c.args.place c.args.priors did.answer did.stands;
+          reweigh_obeys m self.burst c.reweigh.new.self.burst (places_held self.burst self.places self.few) c.reweigh.result c.told_done.result
+          c.told_done.ensures (did.sound sound) c.args.place c.args.priors did.answer did.stands;
     }

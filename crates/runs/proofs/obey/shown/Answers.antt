@@ -5,5 +5,5 @@ pub returns : goal.returns
 returns g c sound =
     let self = c.args.receiver.now in
     let m = g.C.Channel.meaning self.channel in
-    shown_obeys m self.burst (places_held self.burst self.places self.few) sound c.told-done.result c.args.bytes.now c.shown.new.list
-    c.shown.result c.told-done.ensures (c.shown.ensures.answer sound) c.shown.ensures.leaves (c.shown.ensures.shown sound)
+    shown_obeys m self.burst (places_held self.burst self.places self.few) sound c.told_done.result c.args.bytes.now c.shown.new.list
+    c.shown.result c.told_done.ensures (c.shown.ensures.answer sound) c.shown.ensures.leaves (c.shown.ensures.shown sound)

@@ -11,7 +11,7 @@ returns g c =
     let from = c.args.from.now.burst in
     let made = c.new-receiver.ensures in
     let deep = simp made.channel at c.deepen.ensures in
-    let all = simp deep.channel at c.add-all.ensures in
+    let all = simp deep.channel at c.add_all.ensures in
     let b₁ = c.new-receiver.result.burst in
     let b₂ = c.deepen.new.receiver.burst in
     let deepened = subst (λ (q : ℕ). Obeys m (Depth q) b₁ b₂ c.deepen.result) c.depth.ensures (deep.obeyed made.sound) in
@@ -20,6 +20,6 @@ returns g c =
       channel = all.channel;
       sound = added.sound;
       stands =
-          given_by m (standing from) c.places.result.now b₁ b₂ c.add-all.new.receiver.burst c.deepen.result made.stands deepened
+          given_by m (standing from) c.places.result.now b₁ b₂ c.add_all.new.receiver.burst c.deepen.result made.stands deepened
           c.places.ensures added;
     }

@@ -1,5 +1,4 @@
-use Rattle.std.proofs.Common.{◌≡◌, ℕ, ◌-◌, ◌^◌, ◌≤◌, sym, ◌∙◌, ap₂, arith}
-use Rattle.recursions.specs.Depths.{states}
+use Rattle.std.proofs.Common.{ℕ, ◌^◌, sym, ◌∙◌, ap₂, arith}
 use Rattle.burst.proofs.Sizes.{short_memory, few_histories}
 use Rattle.recursions.proofs.Depths.{states_grow}
 use Rattle.columns.proofs.shape.Shape.count.Goals as goal

@@ -1,4 +1,4 @@
-use Rattle.std.proofs.Common.{◌≡◌, ℕ, ◌≤◌, min, true, sym, ap, ◌∙◌, subst, inl, inr, arith}
+use Rattle.std.proofs.Common.{◌≡◌, ℕ, min, true, sym, ap, ◌∙◌, subst, inl, inr}
 use Rattle.channel.specs.Meaning.{Meaning, Lawful}
 use Rattle.recursions.specs.Depths.{depth_allowed, largest_depth}
 use Rattle.recursions.proofs.Depths.{largest_allowed, largest_of_two, largest_of_four}

@@ -1,4 +1,4 @@
-use Rattle.std.proofs.Common.{◌≡◌, ℕ, ◌*◌, ◌≤◌, sym, ◌∙◌, mul-le-mul, arith}
+use Rattle.std.proofs.Common.{◌*◌, ◌≤◌, sym, ◌∙◌, mul-le-mul, arith}
 use Rattle.burst.proofs.Sizes.{two_symbols, four_symbols, some_histories}
 use Rattle.recursions.proofs.Depths.{allowed_keeps, states_within_histories}
 use Rattle.recursions.proofs.Trellises.{some_states}
