@@ -35,10 +35,10 @@ pub fn sweep<C: Channel, J: Joining>(
     answers: &mut [J],
 ) -> Result<(), Refusal>
     ensures refusal { refused_by result ≡ sweep_refusal (C.meaning channel.now) places.now (length forward.old) (length backward.old) (length answers.old) }
-    ensures forward { ForwardStands J.operations J.worthOf (C.meaning channel.now) places.now result forward.old forward.new }
-    ensures backward { BackwardStands J.operations J.worthOf (C.meaning channel.now) places.now result backward.old backward.new }
-    ensures answers { AnswersStand J.operations J.worthOf (C.meaning channel.now) places.now result answers.old answers.new }
-    ensures own { OnOk result (OwnWindows J.operations J.worthOf (C.meaning channel.now) places.now) }
+    ensures forward { ForwardStands J.operations J.worth_of (C.meaning channel.now) places.now result forward.old forward.new }
+    ensures backward { BackwardStands J.operations J.worth_of (C.meaning channel.now) places.now result backward.old backward.new }
+    ensures answers { AnswersStand J.operations J.worth_of (C.meaning channel.now) places.now result answers.old answers.new }
+    ensures own { OnOk result (OwnWindows J.operations J.worth_of (C.meaning channel.now) places.now) }
 {
     let sizes = sizes::sizes_of(channel);
     let lengths = checks::Lengths {

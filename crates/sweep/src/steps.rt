@@ -40,7 +40,7 @@ pub(crate) fn weight<C: Channel, J: Joining>(
     requires sized { Sized (C.meaning channel.now) sizes.symbols sizes.states }
     requires history { history < 128 }
     requires symbol { symbol < 4 }
-    ensures { result ≡ step_worth J.operations J.worthOf (C.meaning channel.now) place history symbol }
+    ensures { result ≡ step_worth J.operations J.worth_of (C.meaning channel.now) place history symbol }
 {
     let window = window_of(sizes, history, symbol);
     J::worth(channel.cost(place.sample, window)).follow(J::worth(place.priors.cost(symbol)))

@@ -12,8 +12,8 @@ returns-then-column-places g c =
     let o = g.J.Joining.operations in
     let m = g.C.Channel.meaning c.args.channel.now in
     let places = c.args.places.now in
-    let t = full_trellis o g.J.Joining.worthOf m places in
-    let sound = full_sound o g.J.Joining.worthOf m places g.met.J.Joining.laws (g.met.C.Channel.lawful c.args.channel.now) in
+    let t = full_trellis o g.J.Joining.worth_of m places in
+    let sound = full_sound o g.J.Joining.worth_of m places g.met.J.Joining.laws (g.met.C.Channel.lawful c.args.channel.now) in
     let state : ℕ = c.args.index % c.args.sizes.states in
     c.unit.ensures ∙ sym (backward_end t sound (length places) state) ∙ ap (λ (k : ℕ). backward_element_of t (length places) k state) (sym c.if-column-places.true)
 
@@ -28,7 +28,7 @@ pub lead_on-requires-clause-after : goal.lead_on-requires-clause-after
 lead_on-requires-clause-after g c =
     let o = g.J.Joining.operations in
     let places = c.args.places.now in
-    let t = full_trellis o g.J.Joining.worthOf (g.C.Channel.meaning c.args.channel.now) places in
+    let t = full_trellis o g.J.Joining.worth_of (g.C.Channel.meaning c.args.channel.now) places in
     let n : ℕ = c.args.sizes.states in
     let column : ℕ = c.args.index / n in
     let is = parts c.args.index n (length places + 1) c.requires.sized.some_states c.requires.index in

@@ -12,7 +12,7 @@ loop-symbol-init g c = c.none-ways.ensures ∙ sym (below_start g.J.Joining.oper
 pub loop-symbol-preserved : goal.loop-symbol-preserved
 loop-symbol-preserved g c =
     let o = g.J.Joining.operations in
-    let worth = g.J.Joining.worthOf in
+    let worth = g.J.Joining.worth_of in
     let m = g.C.Channel.meaning c.args.channel.now in
     let places = c.args.places.now in
     let t = full_trellis o worth m places in
@@ -30,8 +30,8 @@ returns g c =
     let o = g.J.Joining.operations in
     let m = g.C.Channel.meaning c.args.channel.now in
     let places = c.args.places.now in
-    let t = full_trellis o g.J.Joining.worthOf m places in
-    let sound = full_sound o g.J.Joining.worthOf m places g.met.J.Joining.laws (g.met.C.Channel.lawful c.args.channel.now) in
+    let t = full_trellis o g.J.Joining.worth_of m places in
+    let sound = full_sound o g.J.Joining.worth_of m places g.met.J.Joining.laws (g.met.C.Channel.lawful c.args.channel.now) in
     let all : c.loop-symbol.symbol ≡ c.args.sizes.symbols = omega arith in
     c.loop-symbol.invariant
     ∙ ap (λ (a : ℕ). join_below o a (backward_way t (length places) c.args.column c.args.state)) (all ∙ c.requires.sized.symbols_are)

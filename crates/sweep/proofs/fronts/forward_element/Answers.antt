@@ -11,15 +11,15 @@ pub returns-then-column-eq0 : goal.returns-then-column-eq0
 returns-then-column-eq0 g c =
     let o = g.J.Joining.operations in
     let m = g.C.Channel.meaning c.args.channel.now in
-    let t = full_trellis o g.J.Joining.worthOf m c.args.places.now in
-    let sound = full_sound o g.J.Joining.worthOf m c.args.places.now g.met.J.Joining.laws (g.met.C.Channel.lawful c.args.channel.now) in
+    let t = full_trellis o g.J.Joining.worth_of m c.args.places.now in
+    let sound = full_sound o g.J.Joining.worth_of m c.args.places.now g.met.J.Joining.laws (g.met.C.Channel.lawful c.args.channel.now) in
     let state : ℕ = c.args.index % c.args.sizes.states in
     c.start_element.ensures ∙ sym (forward_start t sound state) ∙ ap (λ (k : ℕ). forward_element_of t k state) (sym c.if-column-eq0.true)
 
 pub gather-requires-clause-before : goal.gather-requires-clause-before
 gather-requires-clause-before g c =
     let o = g.J.Joining.operations in
-    let t = full_trellis o g.J.Joining.worthOf (g.C.Channel.meaning c.args.channel.now) c.args.places.now in
+    let t = full_trellis o g.J.Joining.worth_of (g.C.Channel.meaning c.args.channel.now) c.args.places.now in
     let n : ℕ = c.args.sizes.states in
     let column : ℕ = c.args.index / n in
     let is = parts c.args.index n (length c.args.places.now + 1) c.requires.sized.some_states c.requires.index in

@@ -13,7 +13,7 @@ loop-oldest-init g c = c.none-ways.ensures ∙ sym (below_start g.J.Joining.oper
 pub loop-oldest-preserved : goal.loop-oldest-preserved
 loop-oldest-preserved g c =
     let o = g.J.Joining.operations in
-    let worth = g.J.Joining.worthOf in
+    let worth = g.J.Joining.worth_of in
     let m = g.C.Channel.meaning c.args.channel.now in
     let t = full_trellis o worth m c.args.places.now in
     let n = c.args.sizes.states in
@@ -29,9 +29,9 @@ pub returns : goal.returns
 returns g c =
     let o = g.J.Joining.operations in
     let m = g.C.Channel.meaning c.args.channel.now in
-    let t = full_trellis o g.J.Joining.worthOf m c.args.places.now in
-    let sound = full_sound o g.J.Joining.worthOf m c.args.places.now g.met.J.Joining.laws (g.met.C.Channel.lawful c.args.channel.now) in
-    let shifts = full_shifts o g.J.Joining.worthOf m c.args.places.now in
+    let t = full_trellis o g.J.Joining.worth_of m c.args.places.now in
+    let sound = full_sound o g.J.Joining.worth_of m c.args.places.now g.met.J.Joining.laws (g.met.C.Channel.lawful c.args.channel.now) in
+    let shifts = full_shifts o g.J.Joining.worth_of m c.args.places.now in
     let all : c.loop-oldest.oldest ≡ c.args.sizes.symbols = omega arith in
     c.loop-oldest.invariant
     ∙ ap (λ (j : ℕ). join_below o j (forward_way t c.args.sizes.states c.args.sizes.symbols c.args.column c.args.state)) all

@@ -12,7 +12,7 @@ loop-state-init g c = c.none-ways.ensures ∙ sym (below_start g.J.Joining.opera
 pub loop-state-preserved : goal.loop-state-preserved
 loop-state-preserved g c =
     let o = g.J.Joining.operations in
-    let worth = g.J.Joining.worthOf in
+    let worth = g.J.Joining.worth_of in
     let m = g.C.Channel.meaning c.args.channel.now in
     let places = c.args.places.now in
     let t = full_trellis o worth m places in
@@ -33,8 +33,8 @@ returns g c =
     let o = g.J.Joining.operations in
     let m = g.C.Channel.meaning c.args.channel.now in
     let places = c.args.places.now in
-    let t = full_trellis o g.J.Joining.worthOf m places in
-    let sound = full_sound o g.J.Joining.worthOf m places g.met.J.Joining.laws (g.met.C.Channel.lawful c.args.channel.now) in
+    let t = full_trellis o g.J.Joining.worth_of m places in
+    let sound = full_sound o g.J.Joining.worth_of m places g.met.J.Joining.laws (g.met.C.Channel.lawful c.args.channel.now) in
     let all : c.loop-state.state ≡ c.args.sizes.states = omega arith in
     c.loop-state.invariant
     ∙ ap (λ (s : ℕ). join_below o s (answer_way t (length places) c.args.place c.args.symbol)) (all ∙ c.requires.sized.states_are)
