@@ -1,5 +1,5 @@
 -- A burst with a place more keeps what it kept, and is as sound as it was.
-use Rattle.std.proofs.Common.{◌≡◌, ℕ, ◌+◌, ◌-◌, ◌*◌, ◌<◌, List, [], ◌∷◌, ◌++◌, length, set, sym, refl, ap, ◌∙◌, subst, inl, inr, arith, length-set, get_or-set_same}
+use Rattle.std.proofs.Common.{◌≡◌, ℕ, ◌+◌, ◌<◌, List, [], ◌∷◌, ◌++◌, length, set, sym, ap, ◌∙◌, subst, inl, inr, arith, get_or-set_same}
 use Rattle.std.proofs.lemmas.List.{take_more_set, length_push}
 use Rattle.std.proofs.lemmas.Bool.{cases_lt}
 use Rattle.channel.specs.Meaning.{Meaning}
@@ -8,12 +8,11 @@ use Rattle.burst.specs.declared.place.Place.{Place}
 use Rattle.recursions.specs.Depths.{states}
 use Rattle.recursions.proofs.Locality.{forward_local}
 use Rattle.recursions.proofs.Depths.{allowed_keeps}
-use Rattle.columns.specs.Cells.{CostsWithin, costs_of}
+use Rattle.columns.specs.Cells.{costs_of}
 use Rattle.receiver.specs.Bursts.{Kept, places_of, backward_at}
-use Rattle.receiver.specs.Changes.{Added}
 use Rattle.receiver.specs.Sound.{Fits, Sound}
 use Rattle.receiver.specs.declared.inner.Burst.{Burst}
-use Rattle.receiver.proofs.Places.{places_long, place_before, place_last, zeros, zeros_within, zeros_last, backward_end}
+use Rattle.receiver.proofs.Places.{places_long, place_before, place_last, zeros, zeros_last, backward_end}
 
 -- the burst with a place more
 abbrev pub with_place : Burst → Place → Burst
@@ -34,35 +33,6 @@ module _ (b : Burst) (p : Place) (kept : Kept b) (room : b.count < 128) where
   last_written : (k : ℕ) → k ≡ b.count + 1 → backward_at (with_place b p) k ≡ zeros
   last_written k e =
       ap (backward_at (with_place b p)) e ∙ get_or-set_same b.backward (b.count + 1) zeros [] (omega (arith, kept.sized.backward))
-
-  pub add_done : Added b (with_place b p) p
-  add_done = record {
-    stands = λ j. record {
-      depth = b.depth;
-      places = places_are j;
-      forward = b.marks.forward;
-      backward = ap (λ (n : ℕ). n + 1) (sym (places_long b kept.sized)) j;
-    };
-    shape = refl;
-    forward = refl;
-    backward = refl;
-  }
-
-  pub add_keeps : Kept (with_place b p)
-  add_keeps = record {
-    sized = record {
-      places = length-set b.places b.count p ∙ kept.sized.places;
-      forward = kept.sized.forward;
-      backward = length-set b.backward (b.count + 1) zeros ∙ kept.sized.backward;
-      few = omega arith;
-      ahead = omega (arith, kept.sized.ahead);
-      behind = omega arith;
-    };
-    costs = kept.costs;
-    survivors = kept.survivors;
-    onward = λ k low high.
-        subst (CostsWithin (131069 * (b.count + 1 - k))) (sym (last_written k (omega arith))) (zeros_within (131069 * (b.count + 1 - k)));
-  }
 
   module _ (m : Meaning) (fits : Fits m p) (sound : Sound m b) where
     before : (k : ℕ) → k < b.count → place_at (places_of (with_place b p)) k ≡ place_at (places_of b) k

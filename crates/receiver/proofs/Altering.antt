@@ -17,7 +17,7 @@ use Rattle.recursions.proofs.FullDepth.{backward_local}
 use Rattle.recursions.proofs.Locality.{forward_local}
 use Rattle.columns.specs.Cells.{CostsWithin, costs_of}
 use Rattle.receiver.specs.Bursts.{Kept, places_of, backward_at}
-use Rattle.receiver.specs.Changes.{Altered, Shortened}
+use Rattle.receiver.specs.Changes.{Altered}
 use Rattle.receiver.specs.Sound.{Fits, Sound, TellsFull}
 use Rattle.receiver.specs.Standing.{standing, altered, marks_after, full_depth}
 use Rattle.receiver.specs.declared.inner.Burst.{Burst}
@@ -148,9 +148,6 @@ module _ (b : Burst) (full : Bool) (k : ℕ) (p : Place) (kept : Kept b) (held :
     pub alter_done : Altered b (with_other b marks k p) (altered full (standing b) k p)
     alter_done = subst (λ (x : Marks). Altered b (with_other b x k p) (altered full (standing b) k p)) (sym are) done
 
-    pub alter_keeps : Kept (with_other b marks k p)
-    alter_keeps = subst (λ (x : Marks). Kept (with_other b x k p)) (sym are) keeps
-
     pub alter_sound : (m : Meaning) → TellsFull m b full → Fits m p → Sound m b → Sound m (with_other b marks k p)
     alter_sound m tells fits sound = subst (λ (x : Marks). Sound m (with_other b x k p)) (sym are) (stays_sound m tells fits sound)
 
@@ -193,19 +190,6 @@ module _ (b : Burst) (n : ℕ) (kept : Kept b) (held : n ≤ b.count) where
   end_written i e =
       ap (backward_at fewer) e ∙ get_or-set_same b.backward (b.count - n) zeros [] (omega (arith, kept.sized.backward, kept.sized.few))
 
-  fewer_done : Shortened b fewer n
-  fewer_done = record {
-    stands = λ j. record {
-      depth = b.depth;
-      places = fewer_are j;
-      forward = min b.marks.forward (sym new_count j);
-      backward = sym new_count j;
-    };
-    shape = refl;
-    forward = refl;
-    backward = refl;
-  }
-
   fewer_keeps : Kept fewer
   fewer_keeps = record {
     sized = record {
@@ -243,11 +227,5 @@ module _ (b : Burst) (n : ℕ) (kept : Kept b) (held : n ≤ b.count) where
 
   -- the same of marks that are known by an equation
   module _ (marks : Marks) (are : marks ≡ marks_of_fewer b n) where
-    pub cut_done : Shortened b (with_fewer b n marks) n
-    cut_done = subst (λ (x : Marks). Shortened b (with_fewer b n x) n) (sym are) fewer_done
-
-    pub cut_keeps : Kept (with_fewer b n marks)
-    cut_keeps = subst (λ (x : Marks). Kept (with_fewer b n x)) (sym are) fewer_keeps
-
     pub cut_sound : (m : Meaning) → Sound m b → Sound m (with_fewer b n marks)
     cut_sound m sound = subst (λ (x : Marks). Sound m (with_fewer b n x)) (sym are) (fewer_sound m sound)

@@ -35,22 +35,6 @@ forward_sized b column sized more = record {
   behind = sized.behind;
 }
 
-pub climbed_none : (m : Meaning) (b : Burst) → Climbed m b b
-climbed_none m b = record {
-  rest = record { places = refl; count = refl; depth = refl; shape = refl };
-  backward = refl;
-  behind = refl;
-  from = omega arith;
-  kept = λ i le. refl;
-  past = λ i lt. refl;
-  survivors = λ i lt le. absurd (omega arith);
-  bounded = λ c low within i ge le.
-      let same : b.marks.forward ≡ i = omega arith in
-      let none : c ≡ c + 131069 * (i - b.marks.forward) = omega arith in
-      subst (λ (k : ℕ). CostsWithin k (forward_at b i).costs) none (subst (λ (j : ℕ). CostsWithin c (forward_at b j).costs) same within);
-  worked = λ q c shapes low within i ge lt. absurd (omega arith);
-}
-
 module _ (m : Meaning) (b a : Burst) (climbed : Climbed m b a) (sized : Sized a) (more : a.marks.forward < a.count) (column : Column)
     (stepped : (q c : ℕ) → Shapes m q a.shape → CostsWithin c (forward_at a a.marks.forward).costs → c ≤ 40000000
     → Stepped m q (place_at a.places a.marks.forward) (forward_at a a.marks.forward) column)

@@ -1,5 +1,5 @@
 -- A burst at another depth, and one without places: what they keep, and that they are sound.
-use Rattle.std.proofs.Common.{◌≡◌, ℕ, ◌-◌, ◌*◌, ◌≤◌, true, List, [], map, length, take, set, replicate, sym, refl, ap, ◌∙◌, subst, arith, length-set, get_or-set_same}
+use Rattle.std.proofs.Common.{◌≡◌, ℕ, ◌≤◌, true, List, [], map, length, take, set, replicate, sym, ap, ◌∙◌, arith, get_or-set_same}
 use lib.ListN.{get_or-replicate}
 use Rattle.std.specs.List.{range_with_len}
 use Rattle.channel.specs.Meaning.{Meaning}
@@ -12,10 +12,9 @@ use Rattle.columns.specs.Shapes.{Shapes}
 use Rattle.columns.specs.declared.column.Column.{Column}
 use Rattle.columns.specs.declared.shape.Shape.{Shape}
 use Rattle.receiver.specs.Bursts.{Kept, places_of, forward_at, backward_at}
-use Rattle.receiver.specs.Changes.{Deepened}
 use Rattle.receiver.specs.Sound.{Sound}
 use Rattle.receiver.specs.declared.inner.Burst.{Burst}
-use Rattle.receiver.proofs.Places.{places_long, zeros, zeros_within, zeros_last, backward_end}
+use Rattle.receiver.proofs.Places.{places_long, zeros, zeros_last, backward_end}
 
 -- what the first column is
 pub record IsStart (start : Column) : Type 0 where
@@ -52,32 +51,6 @@ module _ (b : Burst) (depth : ℕ) (shape : Shape) (start : Column) (is : IsStar
       let here : k ≡ b.count = omega arith in
       ap (backward_at (with_depth b depth shape start)) here ∙ get_or-set_same b.backward b.count zeros [] (omega (arith, kept.sized.backward, kept.sized.few))
 
-  pub deepen_done : Deepened b (with_depth b depth shape start) depth
-  deepen_done = record {
-    start = start;
-    first = is.cells;
-    stands = λ j. record { depth = depth; places = places_of b; forward = 0; backward = sym (places_long b kept.sized) j };
-    forward = refl;
-    backward = refl;
-  }
-
-  pub deepen_keeps : Kept (with_depth b depth shape start)
-  deepen_keeps = record {
-    sized = record {
-      places = kept.sized.places;
-      forward = length-set b.forward 0 start ∙ kept.sized.forward;
-      backward = length-set b.backward b.count zeros ∙ kept.sized.backward;
-      few = kept.sized.few;
-      ahead = omega arith;
-      behind = omega arith;
-    };
-    costs = λ k le.
-        let none : 0 ≡ 131069 * k = omega arith in
-        subst (λ (x : Column). CostsWithin (131069 * k) x.costs) (sym (first_written k le)) (subst (λ (n : ℕ). CostsWithin n start.costs) none is.within);
-    survivors = λ k le. subst SurvivorsBelow (sym (first_written k le)) is.survivors;
-    onward = λ k low high. subst (CostsWithin (131069 * (b.count - k))) (sym (last_written k low high)) (zeros_within (131069 * (b.count - k)));
-  }
-
   pub deepen_sound : (m : Meaning) → depth_allowed m depth ≡ true → Shapes m depth shape → Sound m b → Sound m (with_depth b depth shape start)
   deepen_sound m allowed shapes sound = record {
     shaped = record { allowed = allowed; shape = shapes };
@@ -111,16 +84,6 @@ module _ (places : List Place) (depth : ℕ) (shape : Shape) (start : Column) (i
 
   last_column_lem : (k : ℕ) → k ≤ 0 → backward_at (without places depth shape start) k ≡ zeros
   last_column_lem k le = get_or-replicate 129 k zeros [] (omega arith)
-
-  pub new_keeps : Kept (without places depth shape start)
-  new_keeps = record {
-    sized = record { places = long; forward = refl; backward = refl; few = omega arith; ahead = omega arith; behind = omega arith };
-    costs = λ k le.
-        let none : 0 ≡ 131069 * k = omega arith in
-        subst (λ (x : Column). CostsWithin (131069 * k) x.costs) (sym (first_column k le)) (subst (λ (n : ℕ). CostsWithin n start.costs) none is.within);
-    survivors = λ k le. subst SurvivorsBelow (sym (first_column k le)) is.survivors;
-    onward = λ k low high. subst (CostsWithin (131069 * (0 - k))) (sym (last_column_lem k high)) (zeros_within (131069 * (0 - k)));
-  }
 
   pub new_sound : (m : Meaning) → depth_allowed m depth ≡ true → Shapes m depth shape → Sound m (without places depth shape start)
   new_sound m allowed shapes = record {

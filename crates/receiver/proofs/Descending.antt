@@ -35,20 +35,6 @@ backward_sized b column sized = record {
   behind = omega (arith, sized.behind);
 }
 
-pub descended_none : (m : Meaning) (b : Burst) → Descended m b b
-descended_none m b = record {
-  rest = record { places = refl; count = refl; depth = refl; shape = refl };
-  forward = refl;
-  ahead = refl;
-  to = omega arith;
-  kept = λ i ge. refl;
-  bounded = λ c low within i ge le.
-      let same : b.marks.backward ≡ i = omega arith in
-      let none : c ≡ c + 131069 * (b.marks.backward - i) = omega arith in
-      subst (λ (k : ℕ). CostsWithin k (backward_at b i)) none (subst (λ (j : ℕ). CostsWithin c (backward_at b j)) same within);
-  worked = λ q c shapes low within i ge lt. absurd (omega arith);
-}
-
 module _ (m : Meaning) (b a : Burst) (descended : Descended m b a) (sized : Sized a) (more : 0 < a.marks.backward) (column : List ℕ)
     (worked : (q c : ℕ) → Shapes m q a.shape → CostsWithin c (backward_at a (a.marks.backward - 1 + 1)) → c ≤ 40000000
     → Backstepped m q (place_at a.places (a.marks.backward - 1)) (forward_at a (a.marks.backward - 1)) (backward_at a (a.marks.backward - 1 + 1)) column)
