@@ -3,7 +3,7 @@
 
 usage: python3 tools/respell.py [--list]    at the top of the repository, after port.py
 
-What it turns are names that a file of specs/ or proofs/ defines, wherever they stand: in specs, proofs, clauses,
+What it turns are names that a file of specs/ or proofs/ defines, and ghost members, wherever they stand: in specs, proofs, clauses,
 must-fail edits and pages. Functions of src/, and names that Rattle makes for goals, stay. It stops where two names
 would fall together.
 """
@@ -61,6 +61,8 @@ def defined():
             m = DEF.match(line)
             if m:
                 (goals if re.match(r"goal\.", m.group(4)) or KEEP.match(m.group(2)) else mine).add(m.group(2))
+    for path in files("crates", ".rt"):
+        mine.update(re.findall(r"(?m)^\s+ghost ([^\W\d]\w*):", open(path, encoding="utf-8").read()))
     return mine, goals, fields
 
 

@@ -41,7 +41,7 @@ fn places_of<C: Channel>(receiver: &Receiver<C>) -> &[Place]
 
 /// Fills three lists by a sweep of a receiver's places over its channel under the least-cost joining.
 ///
-/// With M symbols, the answer at typeof.k.M + a is the least total of all sequences with the value a at place k, and the greatest number exactly if none of them is
+/// With M symbols, the answer at k·M + a is the least total of all sequences with the value a at place k, and the greatest number exactly if none of them is
 /// admitted. At full depth it is the receiver's cost of a at k. The sweep looks at no column, so the receiver need not be settled. A sound receiver's
 /// places all fit: then the call is refused only where a list is too short. Elements past those written keep their contents, and a refused call writes none.
 pub fn least_totals<C: Channel>(

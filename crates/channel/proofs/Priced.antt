@@ -1,6 +1,5 @@
 -- What a cost that is a number tells of the sample and the window.
 use Rattle.std.proofs.Common.{◌≡◌, ℕ, Bool, true, false, cond, ◌&&◌, ltb, refl, arith}
-use Rattle.cost.specs.declared.Cost.{Cost}
 use Rattle.cost.specs.declared.Cost.TheVariants.{Eighths, Barred}
 use Rattle.channel.specs.declared.sample.Sample.{Sample}
 use Rattle.channel.specs.Meaning.{Meaning, windows, taken, cost_of}

@@ -1,5 +1,5 @@
 -- What a channel means: every definition above channels is written over this record, never over one kind.
-use Rattle.std.specs.Prelude.{◌≡◌, ℕ, ◌^◌, ◌≤◌, Bool, true, cond, ◌&&◌, ◌⊎◌, nat_lt}
+use Rattle.std.specs.Prelude.{◌≡◌, ℕ, ◌^◌, ◌≤◌, Bool, cond, ◌&&◌, ◌⊎◌, nat_lt}
 use Rattle.cost.specs.declared.Cost.{Cost}
 use Rattle.cost.specs.declared.Cost.TheVariants.{Eighths, Barred}
 use Rattle.channel.specs.declared.sample.Sample.{Sample}

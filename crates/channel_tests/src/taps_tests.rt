@@ -96,7 +96,7 @@ fn only_samples_with_second_number_0_in_range_are_taken(rt: HostRuntime) {
 #[test]
 fn a_blank_channel_has_one_tap_0_and_noise_8(rt: HostRuntime) {
     let channel = Taps::blank();
-    assert_eq!(rt; channel.taps(), &[0]);
+    assert_eq!(rt; channel.taps(), [0].as_slice());
     assert_eq!(rt; channel.noise(), 8);
     assert_eq!(rt; channel.memory(), 1);
     assert_eq!(rt; channel.cost(plain(3), 1), Cost::Eighths(9));
@@ -109,7 +109,7 @@ fn refuses(rt: &impl Abort, taps: &[i16], noise: i32, number: u8) -> Result<(), 
         Ok(()) => return Err(Fail::new("loaded")),
         Err(refusal) => assert_eq!(rt; refusal.number(), number),
     }
-    assert_eq!(rt; channel.taps(), &[-512; 8]);
+    assert_eq!(rt; channel.taps(), [-512; 8].as_slice());
     assert_eq!(rt; channel.noise(), 5);
     Ok(())
 }
@@ -140,11 +140,11 @@ fn the_widest_load_is_taken(rt: HostRuntime) -> Result<(), Fail> {
     channel.load(&[-512, 511, -512, 511, -512, 511, -512, 511], 1_000_000)?;
     assert_eq!(rt;
         channel.taps(),
-        &[-512, 511, -512, 511, -512, 511, -512, 511]
+        [-512, 511, -512, 511, -512, 511, -512, 511].as_slice()
     );
     assert_eq!(rt; channel.noise(), 1_000_000);
     channel.load(&[3], 1)?;
-    assert_eq!(rt; channel.taps(), &[3]);
+    assert_eq!(rt; channel.taps(), [3].as_slice());
     assert_eq!(rt; channel.noise(), 1);
     Ok(())
 }

@@ -2,7 +2,7 @@
 use Rattle.std.proofs.Common.{◌≡◌, ℕ, zero, suc, ◌+◌, ◌*◌, ◌/◌, ◌%◌, ◌<◌, min, cond, eqb, List, [], ◌∷◌, sym, refl, ap, ◌∙◌, arith}
 use lib.Bits.{bit_and, and_step, and_zero_r}
 use lib.Count.{ones, ones_step}
-use Rattle.std.specs.List.{AllByRecursion as All}
+use Rattle.std.specs.List.{AllByRecursion}
 use Rattle.std.proofs.lemmas.Bool.Decides.{nat_tests}
 use Rattle.channel.specs.Windows.{window_number, symbol_at}
 use Rattle.channel.proofs.Windows.{one_back, half}
@@ -32,7 +32,7 @@ lowest mask window =
 here : (mask a h : ℕ) → a < 2 → min (mask % 2) ((a + 2 * h) % 2) ≡ cond (eqb (symbol_at 2 mask 0) 1) a 0
 here mask a h small = grind (arith, nat_tests)
 
-common : (mask : ℕ) (symbols : List ℕ) → All (λ a. a < 2) symbols → ones (bit_and mask (window_number 2 symbols)) ≡ picked_from 0 mask symbols
+common : (mask : ℕ) (symbols : List ℕ) → AllByRecursion (λ a. a < 2) symbols → ones (bit_and mask (window_number 2 symbols)) ≡ picked_from 0 mask symbols
 common mask [] small = none mask
 common mask (a ∷ before) small =
     lowest mask (a + 2 * window_number 2 before)

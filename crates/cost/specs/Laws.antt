@@ -1,5 +1,5 @@
 -- What the least and the sum of costs obey.
-use Rattle.std.specs.Prelude.{◌≡◌, ℕ}
+use Rattle.std.specs.Prelude.{◌≡◌}
 use Rattle.cost.specs.Arithmetic.{plus, least}
 use Rattle.cost.specs.declared.Cost.{Cost}
 use Rattle.cost.specs.declared.Cost.TheVariants.{Eighths, Barred}

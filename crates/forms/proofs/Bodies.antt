@@ -1,7 +1,7 @@
 -- Lines as their first words and what follows those.
-use Rattle.std.proofs.Common.{◌≡◌, ℕ, ◌<◌, ◌≤◌, min, ◌⊎◌, List, [], ◌∷◌, ◌++◌, map, length, get_or, take, ℤ, Ok, Err, codes, Result, sym, refl, ap, ◌∙◌, subst, inl, inr, arith, MatchResult}
+use Rattle.std.proofs.Common.{◌≡◌, ℕ, ◌<◌, ◌≤◌, min, ◌⊎◌, List, [], ◌∷◌, ◌++◌, map, length, get_or, take, ℤ, Ok, Err, codes, Result, sym, refl, ap, ◌∙◌, inl, inr, arith}
 use Rattle.std.specs.Fmt.{signed_decimal}
-use Rattle.std.specs.List.{AllByRecursion as All}
+use Rattle.std.specs.List.{AllByRecursion}
 use Rattle.std.proofs.lemmas.List.{append_cancel_left, append-nil, take-map, take_all}
 use Rattle.numerals.specs.Numbers.{SevenDigits}
 use Rattle.table.specs.declared.entry.Entry.{Entry}
@@ -10,9 +10,9 @@ use Rattle.forms.specs.declared.head.Head.{Head}
 use Rattle.forms.specs.declared.head.Head.TheVariants.{Taps, Table, Code, Depth, Place}
 use Rattle.forms.specs.declared.line.Line.{Line}
 use Rattle.forms.specs.declared.prior.Prior.{Prior}
-use Rattle.forms.specs.Forms.{Form, taps_form, table_form, code_form, depth_form, place_form, prior_text, entry_text, feed, listed, opening, head_of, body_of, text_of, PriorLawful, EntryLawful, Lawful, FormsHaveOneText}
-use Rattle.forms.specs.Lines.{nearest, IsBody, ReadsBody, ReadsLine}
-use Rattle.forms.specs.Pieces.{Ends, Told, Kept}
+use Rattle.forms.specs.Forms.{Form, taps_form, table_form, code_form, depth_form, place_form, prior_text, entry_text, feed, listed, opening, head_of, body_of, PriorLawful, EntryLawful, Lawful, FormsHaveOneText}
+use Rattle.forms.specs.Lines.{nearest, ReadsBody, ReadsLine}
+use Rattle.forms.specs.Pieces.{Ends, Told}
 use Rattle.forms.proofs.Lists.{begins, shut, spaced}
 use Rattle.forms.specs.Telling.{number_told, prior_told, entry_told, past_number}
 
@@ -99,14 +99,14 @@ none_more write [] e = refl
 none_more write (u ∷ us) e = let z : ◌≡◌ {A = ℕ} 41 32 = ap (λ l. get_or l 0 0) e in absurd (omega arith)
 
 pub same_listed :
-    {X : Type 0} (write : X → List ℕ) (lawful : X → Type 0) (told : Told write lawful) (ps qs : List X) → All lawful ps → All lawful qs
+    {X : Type 0} (write : X → List ℕ) (lawful : X → Type 0) (told : Told write lawful) (ps qs : List X) → AllByRecursion lawful ps → AllByRecursion lawful qs
     → listed write ps ≡ listed write qs → ps ≡ qs
 same_listed write lawful told ps qs fp fq e =
     let m = begins write lawful told ps qs shut fp fq (λ _. inr refl) e in
     sym (m.1 ∙ ap (λ us. ps ++ us) (none_more write m.0 m.2) ∙ append-nil ps)
 
 pub one_list :
-    {X : Type 0} (write : X → List ℕ) (lawful : X → Type 0) (told : Told write lawful) (text : List ℕ) (ps qs : List X) → All lawful ps → All lawful qs
+    {X : Type 0} (write : X → List ℕ) (lawful : X → Type 0) (told : Told write lawful) (text : List ℕ) (ps qs : List X) → AllByRecursion lawful ps → AllByRecursion lawful qs
     → text ≡ listed write ps → text ≡ listed write qs → ps ≡ qs
 one_list write lawful told text ps qs fp fq e h = same_listed write lawful told ps qs fp fq (sym e ∙ h)
 

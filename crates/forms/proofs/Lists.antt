@@ -1,7 +1,7 @@
 -- Pieces read one after another.
-use Rattle.std.proofs.Common.{◌≡◌, ℕ, zero, suc, ◌+◌, ◌-◌, ◌<◌, ◌≤◌, min, ◌⊎◌, List, [], ◌∷◌, ◌++◌, length, get_or, take, drop, set, codes, sym, refl, ap, ◌∙◌, subst, inl, inr, append_assoc, arith, length-append, length-drop, length-set, length-take}
-use Rattle.std.specs.List.{flat_map, AllByRecursion as All}
-use Rattle.std.proofs.lemmas.List.{take_all, take-append-le, take_more_set, flat_map_more, append-nil, length_push}
+use Rattle.std.proofs.Common.{◌≡◌, ℕ, ◌+◌, ◌-◌, ◌<◌, ◌≤◌, min, ◌⊎◌, List, [], ◌∷◌, ◌++◌, length, get_or, take, drop, set, codes, sym, refl, ap, ◌∙◌, subst, inl, inr, append_assoc, arith, length-append, length-drop, length-set, length-take}
+use Rattle.std.specs.List.{flat_map, AllByRecursion}
+use Rattle.std.proofs.lemmas.List.{take_all, take-append-le, take_more_set, flat_map_more, length_push}
 use Rattle.std.proofs.ByRecursion.{All-push}
 use Rattle.forms.specs.Forms.{feed, listed}
 use Rattle.forms.specs.Pieces.{Ends, Told, Kept}
@@ -27,7 +27,7 @@ module _ {X : Type 0} (write : X → List ℕ) (lawful : X → Type 0) where
   pub record Got (text : List ℕ) (kept : List X) (count : ℕ) (rest : List ℕ) : Type 0 where
     pub seen : List X
     pub so_far : text ≡ spaced write seen ++ rest
-    pub all_lawful : All lawful seen
+    pub all_lawful : AllByRecursion lawful seen
     pub ends : 0 < length seen → Ends rest
     pub counted : count ≡ min (length seen) (length kept)
     pub front : take count kept ≡ take (length kept) seen
@@ -79,7 +79,7 @@ module _ {X : Type 0} (write : X → List ℕ) (lawful : X → Type 0) where
 
   -- if a text goes on after some pieces, any list of pieces that it writes begins with them
   pub begins :
-      (told : Told write lawful) (ps qs : List X) (r : List ℕ) → All lawful ps → All lawful qs → (0 < length ps → Ends r)
+      (told : Told write lawful) (ps qs : List X) (r : List ℕ) → AllByRecursion lawful ps → AllByRecursion lawful qs → (0 < length ps → Ends r)
       → spaced write ps ++ r ≡ spaced write qs ++ shut → (us : List X) × (qs ≡ ps ++ us) × (r ≡ spaced write us ++ shut)
   begins told [] qs r fp fq er e = (qs, refl, e)
   begins told (p ∷ ps) [] r fp fq er e = let z : ◌≡◌ {A = ℕ} 32 41 = ap (λ l. get_or l 0 0) e in absurd (omega arith)
@@ -92,12 +92,12 @@ module _ {X : Type 0} (write : X → List ℕ) (lawful : X → Type 0) where
       let more : qs ≡ ps ++ m.0 = m.1 in
       (m.0, cc, m.2)
 
-  all_second : (ps us : List X) → All lawful (ps ++ us) → All lawful us
+  all_second : (ps us : List X) → AllByRecursion lawful (ps ++ us) → AllByRecursion lawful us
   all_second [] us f = f
   all_second (p ∷ ps) us f = all_second ps us f.1
 
   next_is :
-      (rest after : List ℕ) (us : List X) → rest ≡ 32 ∷ after → All lawful us → rest ≡ spaced write us ++ shut
+      (rest after : List ℕ) (us : List X) → rest ≡ 32 ∷ after → AllByRecursion lawful us → rest ≡ spaced write us ++ shut
       → ((x : X) (s : List ℕ) → lawful x → Ends s → after ≡ write x ++ s → ⊥) → ⊥
   next_is rest after [] e f r none = not_space rest after e r
   next_is rest after (u ∷ us) e f r none =
@@ -106,10 +106,10 @@ module _ {X : Type 0} (write : X → List ℕ) (lawful : X → Type 0) where
   -- no list has a piece where none stands
   pub no_next :
       (told : Told write lawful) (text rest after : List ℕ) (kept : List X) (count : ℕ) → Got text kept count rest → rest ≡ 32 ∷ after
-      → ((x : X) (s : List ℕ) → lawful x → Ends s → after ≡ write x ++ s → ⊥) → (xs : List X) → All lawful xs → 1 ≤ length xs → text ≡ listed write xs → ⊥
+      → ((x : X) (s : List ℕ) → lawful x → Ends s → after ≡ write x ++ s → ⊥) → (xs : List X) → AllByRecursion lawful xs → 1 ≤ length xs → text ≡ listed write xs → ⊥
   no_next told text rest after kept count g e none xs f some h =
       let m = begins told g.seen xs rest g.all_lawful f g.ends (sym g.so_far ∙ h) in
-      next_is rest after m.0 e (all_second g.seen m.0 (subst (All lawful) m.1 f)) m.2 none
+      next_is rest after m.0 e (all_second g.seen m.0 (subst (AllByRecursion lawful) m.1 f)) m.2 none
 
   over :
       (rest : List ℕ) (n : ℕ) (xs : List X) → (get_or rest 0 0 ≡ 32 → ⊥) → (n ≡ 0) ⊎ (rest ≡ shut → ⊥) → 1 ≤ length xs
@@ -125,7 +125,7 @@ module _ {X : Type 0} (write : X → List ℕ) (lawful : X → Type 0) where
   -- nor does one end where there is no space and not the end
   pub no_end_here :
       (told : Told write lawful) (text rest : List ℕ) (kept : List X) (count : ℕ) → Got text kept count rest → 1 ≤ length kept → (get_or rest 0 0 ≡ 32 → ⊥)
-      → (count ≡ 0) ⊎ (rest ≡ shut → ⊥) → (xs : List X) → All lawful xs → 1 ≤ length xs → text ≡ listed write xs → ⊥
+      → (count ≡ 0) ⊎ (rest ≡ shut → ⊥) → (xs : List X) → AllByRecursion lawful xs → 1 ≤ length xs → text ≡ listed write xs → ⊥
   no_end_here told text rest kept count g room ns bad xs f some h =
       let m = begins told g.seen xs rest g.all_lawful f g.ends (sym g.so_far ∙ h) in
       over rest (length g.seen) xs ns (none_seen text rest kept count g room bad) some m.0 m.2 (ap length m.1 ∙ length-append g.seen m.0)

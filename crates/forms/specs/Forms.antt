@@ -1,7 +1,7 @@
 -- The forms of a line: what each says, and the text that it is.
 use Rattle.std.specs.Prelude.{◌≡◌, ℕ, ◌≤◌, ◌⊎◌, List, [], ◌∷◌, ◌++◌, length, ℤ, codes}
 use Rattle.std.specs.Fmt.{signed_decimal}
-use Rattle.std.specs.List.{flat_map, AllByRecursion as All}
+use Rattle.std.specs.List.{flat_map, AllByRecursion}
 use Rattle.numerals.specs.Numbers.{SevenDigits}
 use Rattle.table.specs.declared.entry.Entry.{Entry}
 use Rattle.table.specs.declared.entry.Entry.TheVariants.{Barred as BarredEntry, Expected}
@@ -76,12 +76,12 @@ EntryLawful (Expected first second) = SevenDigits first × SevenDigits second
 
 -- A form's numbers have at most seven digits; there is a tap or an entry at least; there are two or four priors.
 abbrev pub Lawful : Form → Type 0
-Lawful (taps_form noise taps) = SevenDigits noise × All SevenDigits taps × (1 ≤ length taps)
-Lawful (table_form noise memory entries) = SevenDigits noise × SevenDigits memory × All EntryLawful entries × (1 ≤ length entries)
+Lawful (taps_form noise taps) = SevenDigits noise × AllByRecursion SevenDigits taps × (1 ≤ length taps)
+Lawful (table_form noise memory entries) = SevenDigits noise × SevenDigits memory × AllByRecursion EntryLawful entries × (1 ≤ length entries)
 Lawful (code_form memory first second) = SevenDigits memory × SevenDigits first × SevenDigits second
 Lawful (depth_form depth) = SevenDigits depth
 Lawful (place_form first second priors) =
-    SevenDigits first × SevenDigits second × All PriorLawful priors × ((length priors ≡ 2) ⊎ (length priors ≡ 4))
+    SevenDigits first × SevenDigits second × AllByRecursion PriorLawful priors × ((length priors ≡ 2) ⊎ (length priors ≡ 4))
 
 -- No two lawful forms have one text.
 abbrev pub FormsHaveOneText : Type 0

@@ -2,7 +2,7 @@
 use Rattle.std.specs.Prelude.{◌≡◌, ℕ, ◌≤◌, min, ◌⊎◌, List, [], ◌∷◌, ◌++◌, length, take, ℤ, Result, MatchResult, ◌≢◌}
 use Rattle.std.specs.Borrow.{Bor}
 use Rattle.std.specs.Fmt.{signed_decimal}
-use Rattle.std.specs.List.{AllByRecursion as All}
+use Rattle.std.specs.List.{AllByRecursion}
 use Rattle.numerals.specs.Numbers.{SevenDigits}
 use Rattle.table.specs.declared.entry.Entry.{Entry}
 use Rattle.table.specs.declared.entry.Entry.TheVariants.{Expected}
@@ -25,8 +25,8 @@ Follows mark text r = MatchResult r (λ rest. text ≡ mark ++ rest.now) (λ _. 
 -- a text is a word and what follows it, or is not
 abbrev pub CutsWord : List ℕ → Result (Bor (List ℕ) × Bor (List ℕ)) NotAForm → Type 0
 CutsWord text r =
-    MatchResult r (λ p. (text ≡ p.0.now ++ p.1.now) × All OfWord p.0.now × Ends p.1.now)
-    (λ _. (w rest : List ℕ) → All OfWord w → Ends rest → text ≢ w ++ rest)
+    MatchResult r (λ p. (text ≡ p.0.now ++ p.1.now) × AllByRecursion OfWord p.0.now × Ends p.1.now)
+    (λ _. (w rest : List ℕ) → AllByRecursion OfWord w → Ends rest → text ≢ w ++ rest)
 
 -- a text is what is written of some lawful x, where a word can end, and what follows, or is not
 abbrev pub Takes : {X : Type 0} → (X → List ℕ) → (X → Type 0) → List ℕ → Result (X × Bor (List ℕ)) NotAForm → Type 0
@@ -55,7 +55,7 @@ Told {X} write lawful =
 pub record Kept {X : Type 0} (write : X → List ℕ) (lawful : X → Type 0) (text : List ℕ) (kept : List X) (count : ℕ) : Type 0 where
   pub pieces : List X
   pub text_is : text ≡ listed write pieces
-  pub all_lawful : All lawful pieces
+  pub all_lawful : AllByRecursion lawful pieces
   pub some : 1 ≤ length pieces
   pub counted : count ≡ min (length pieces) (length kept)
   pub front : take count kept ≡ take (length kept) pieces
@@ -63,4 +63,4 @@ pub record Kept {X : Type 0} (write : X → List ℕ) (lawful : X → Type 0) (t
 abbrev pub TakesList : {X : Type 0} → (X → List ℕ) → (X → Type 0) → List ℕ → List X → Result ℕ NotAForm → Type 0
 TakesList {X} write lawful text kept r =
     MatchResult r (λ count. Kept write lawful text kept count)
-    (λ _. (xs : List X) → All lawful xs → 1 ≤ length xs → text ≢ listed write xs)
+    (λ _. (xs : List X) → AllByRecursion lawful xs → 1 ≤ length xs → text ≢ listed write xs)

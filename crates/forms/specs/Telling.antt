@@ -1,9 +1,9 @@
 -- Numbers, priors and entries stand at the front of a text in one way only.
-use Rattle.std.specs.Prelude.{◌≡◌, ℕ, suc, ◌<◌, List, [], ◌∷◌, ◌++◌, length, ℤ, pos, negsuc, codes, ◌≢◌, slice_index, slice_index_or, refl}
+use Rattle.std.specs.Prelude.{◌≡◌, ℕ, ◌<◌, List, [], ◌∷◌, ◌++◌, length, ℤ, pos, negsuc, codes, ◌≢◌, slice_index, slice_index_or, refl}
 use Rattle.std.proofs.Common.{sym, ap, ◌∙◌, subst, append_assoc, inl, inr, arith, to_z, of_z}
 use Rattle.std.specs.Int.{IsInRange, w32}
 use Rattle.std.specs.Fmt.{signed_decimal}
-use Rattle.std.specs.List.{AllByRecursion as All}
+use Rattle.std.specs.List.{AllByRecursion}
 use Rattle.std.proofs.ByRecursion.{All-get_or}
 use Rattle.std.proofs.lemmas.List.{append_cancel_left}
 use Rattle.std.proofs.lemmas.Int.{ints}
@@ -25,7 +25,7 @@ kept (negsuc n) h = omega (arith, ints)
 above : (c : ℕ) → 41 < c → OfWord c
 above c h = (λ e. omega arith, λ e. omega arith)
 
-pub number_is_a_word : (z : ℤ) → SevenDigits z → All OfWord (signed_decimal z)
+pub number_is_a_word : (z : ℤ) → SevenDigits z → AllByRecursion OfWord (signed_decimal z)
 number_is_a_word = all_of_number OfWord (λ c d. above c (omega arith)) (above 45 (omega arith))
 
 pub number_told : Told signed_decimal SevenDigits
@@ -45,11 +45,11 @@ pub ends_mark : (mark rest : List ℕ) → Ends mark → Ends (mark ++ rest)
 ends_mark [] rest e = absurd e
 ends_mark (c ∷ mark) rest e = e
 
-barred_is_a_word : All OfWord (codes "barred")
+barred_is_a_word : AllByRecursion OfWord (codes "barred")
 barred_is_a_word =
     (above 98 (omega arith), (above 97 (omega arith), (above 114 (omega arith), (above 114 (omega arith), (above 101 (omega arith), (above 100 (omega arith), tt))))))
 
-pub prior_is_a_word : (p : Prior) → PriorLawful p → All OfWord (prior_text p)
+pub prior_is_a_word : (p : Prior) → PriorLawful p → AllByRecursion OfWord (prior_text p)
 prior_is_a_word (Number z) h = number_is_a_word z h
 prior_is_a_word Barred h = barred_is_a_word
 

@@ -20,7 +20,7 @@ pub(crate) fn read_list<P: Piece>(text: &[u8], into: &mut [P]) -> Result<usize, 
         }
         rest = next;
     }
-    if count > 0 && rest == b"))\n" {
+    if count > 0 && rest == b"))\n".as_slice() {
         Ok(count)
     } else {
         Err(NotAForm::Unexpected)

@@ -34,7 +34,7 @@ impl Piece for Prior {
 
     fn read(text: &[u8]) -> Result<(Prior, &[u8]), NotAForm> {
         let (word, rest) = word(text)?;
-        if word == b"barred" {
+        if word == b"barred".as_slice() {
             return Ok((Prior::Barred, rest));
         }
         let number = numerals::number(word)?;

@@ -26,7 +26,7 @@ impl Admitted {
 impl Joining for Admitted {
     ghost operations = { admitted_operations };
 
-    ghost worthOf = { admitted_worth };
+    ghost worth_of = { admitted_worth };
 
     ghost laws = { admitted_laws };
 

@@ -39,7 +39,7 @@ impl Count {
 impl Joining for Count {
     ghost operations = { count_operations };
 
-    ghost worthOf = { count_worth };
+    ghost worth_of = { count_worth };
 
     ghost laws = { count_laws };
 

@@ -39,7 +39,7 @@ impl LeastCost {
 impl Joining for LeastCost {
     ghost operations = { least_cost_operations };
 
-    ghost worthOf = { least_cost_worth };
+    ghost worth_of = { least_cost_worth };
 
     ghost laws = { least_cost_laws };
 

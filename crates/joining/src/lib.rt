@@ -16,7 +16,7 @@ mod least;
 pub trait Joining: Copy {
     ghost operations: { Operations Self };
 
-    ghost worthOf: { Costs → Self };
+    ghost worth_of: { Costs → Self };
 
     /// What no way at all is worth: the join of nothing.
     fn none() -> Self
@@ -36,11 +36,11 @@ pub trait Joining: Copy {
 
     /// What a part of this cost is worth.
     fn worth(cost: Cost) -> Self
-        ensures { result ≡ worthOf cost };
+        ensures { result ≡ worth_of cost };
 
     ghost laws: { Laws operations };
 
-    ghost barred: { worthOf Barred ≡ operations.none };
+    ghost barred: { worth_of Barred ≡ operations.none };
 }
 
 /// The least cost of all ways, in eighths. The greatest number stands for none.

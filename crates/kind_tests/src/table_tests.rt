@@ -59,7 +59,7 @@ fn all_windows_may_be_barred(rt: HostRuntime) -> Result<(), Fail> {
     assert!(rt; channel.takes(sample(0, 0)));
     assert_eq!(rt; channel.cost(sample(0, 0), 0), Cost::Barred);
     assert_eq!(rt; channel.cost(sample(0, 0), 15), Cost::Barred);
-    assert_eq!(rt; channel.entries(), &[Entry::Barred; 16]);
+    assert_eq!(rt; channel.entries(), [Entry::Barred; 16].as_slice());
     Ok(())
 }
 
@@ -76,7 +76,7 @@ fn every_sample_in_range_is_taken(rt: HostRuntime) {
 fn a_blank_table_expects_0_and_0(rt: HostRuntime) {
     let channel = Table::blank();
     assert_eq!(rt; channel.memory(), 1);
-    assert_eq!(rt; channel.entries(), &[ZERO; 4]);
+    assert_eq!(rt; channel.entries(), [ZERO; 4].as_slice());
     assert_eq!(rt; channel.noise(), 8);
     assert_eq!(rt; channel.cost(sample(3, 4), 3), Cost::Eighths(25));
 }
@@ -95,7 +95,7 @@ fn refuses(
         Err(refusal) => assert_eq!(rt; refusal.number(), number),
     }
     assert_eq!(rt; channel.memory(), 1);
-    assert_eq!(rt; channel.entries(), &four());
+    assert_eq!(rt; channel.entries(), four().as_slice());
     assert_eq!(rt; channel.noise(), 5);
     Ok(())
 }
@@ -139,12 +139,12 @@ fn the_widest_load_is_taken(rt: HostRuntime) -> Result<(), Fail> {
     let widest = [expects(-8191, 8191); 256];
     let mut channel = loaded(4, &widest, 1_000_000)?;
     assert_eq!(rt; channel.memory(), 4);
-    assert_eq!(rt; channel.entries(), &widest);
+    assert_eq!(rt; channel.entries(), widest.as_slice());
     assert_eq!(rt; channel.noise(), 1_000_000);
     assert_eq!(rt; channel.cost(sample(-2048, 2047), 255), Cost::Eighths(603));
     channel.load(1, &four(), 1)?;
     assert_eq!(rt; channel.memory(), 1);
-    assert_eq!(rt; channel.entries(), &four());
+    assert_eq!(rt; channel.entries(), four().as_slice());
     assert_eq!(rt; channel.noise(), 1);
     Ok(())
 }

@@ -1,5 +1,5 @@
 -- The line of the code kind.
-use Rattle.std.specs.Prelude.{ℕ, ℤ, pos, None, Option, unsigned_abs}
+use Rattle.std.specs.Prelude.{ℕ, pos, None, Option, unsigned_abs}
 use Rattle.channel.specs.Meaning.{Meaning}
 use Rattle.code.specs.Held.{memory_of, first_mask_of, second_mask_of}
 use Rattle.code.specs.Rule.{code_meaning, load_refusal}

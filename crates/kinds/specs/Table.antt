@@ -1,5 +1,5 @@
 -- The line of the table kind.
-use Rattle.std.specs.Prelude.{ℕ, List, [], ℤ, pos, None, Option, unsigned_abs}
+use Rattle.std.specs.Prelude.{ℕ, [], pos, None, Option, unsigned_abs}
 use Rattle.channel.specs.Meaning.{Meaning}
 use Rattle.table.specs.Held.{memory_of, entries_of, noise_of}
 use Rattle.table.specs.Rule.{table_meaning, load_refusal}

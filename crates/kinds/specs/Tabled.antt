@@ -2,13 +2,12 @@
 use Rattle.std.specs.Prelude.{◌≡◌, ℕ, zero, suc, ◌^◌, ◌<◌, ◌≤◌, Bool, true, false, cond, not, ◌&&◌, ◌⊎◌, List, [], ◌∷◌, length, take, ℤ, pos, negsuc, Some, None, Option, ◌≢◌, refl}
 use Rattle.std.proofs.Common.{sym, ap, ◌∙◌, inl, inr, arith, length-take}
 use Rattle.std.specs.Option.{option_map}
-use Rattle.std.specs.List.{AllByRecursion as All}
+use Rattle.std.specs.List.{AllByRecursion}
 use Rattle.std.proofs.lemmas.List.{take_all}
 use Rattle.std.proofs.lemmas.Int.{ints}
 use Rattle.std.proofs.lemmas.Bool.{cases_lt}
 use Rattle.std.proofs.lemmas.Bool.Decides.{nat_tests}
 use Rattle.channel.specs.Distances.{in_noise_range}
-use Rattle.channel.specs.Samples.{between}
 use Rattle.numerals.specs.Numbers.{SevenDigits}
 use Rattle.table.specs.Entries.{entry_in_range, number_in_range, each_in_range}
 use Rattle.table.specs.Held.{memory_of, entries_of, noise_of}
@@ -138,7 +137,7 @@ small_entry : (e : Entry) → entry_in_range e ≡ true → EntryLawful e
 small_entry Barred h = tt
 small_entry (Expected x y) h = (small x (first (number_in_range x) (number_in_range y) h), small y (second (number_in_range x) (number_in_range y) h))
 
-all_small : (es : List Entry) → each_in_range es ≡ true → All EntryLawful es
+all_small : (es : List Entry) → each_in_range es ≡ true → AllByRecursion EntryLawful es
 all_small [] h = tt
 all_small (e ∷ es) h = (small_entry e (first (entry_in_range e) (each_in_range es) h), all_small es (second (entry_in_range e) (each_in_range es) h))
 

@@ -1,8 +1,8 @@
 -- What is held of a line of taps loads as the line itself does.
-use Rattle.std.specs.Prelude.{◌≡◌, ℕ, ◌<◌, ◌≤◌, Bool, true, false, cond, not, ◌&&◌, ◌⊎◌, List, [], ◌∷◌, map, length, take, ℤ, pos, negsuc, Some, None, Option, nat_le, refl}
+use Rattle.std.specs.Prelude.{◌≡◌, ℕ, ◌<◌, ◌≤◌, Bool, true, cond, not, ◌&&◌, ◌⊎◌, List, [], ◌∷◌, map, length, take, ℤ, pos, negsuc, Some, None, Option, nat_le, refl}
 use Rattle.std.proofs.Common.{sym, ap, ◌∙◌, inl, inr, arith, length-take}
 use Rattle.std.specs.Option.{option_map}
-use Rattle.std.specs.List.{AllByRecursion as All}
+use Rattle.std.specs.List.{AllByRecursion}
 use Rattle.std.proofs.lemmas.List.{take_all, length-map}
 use Rattle.std.proofs.lemmas.Int.{ints}
 use Rattle.std.proofs.lemmas.Bool.{cases_lt}
@@ -120,7 +120,7 @@ small : (z : ℤ) → tap_in_range z ≡ true → SevenDigits z
 small (pos n) h = grind (arith, ints)
 small (negsuc n) h = grind (arith, ints)
 
-all_small : (ts : List ℤ) → each_in_range ts ≡ true → All SevenDigits ts
+all_small : (ts : List ℤ) → each_in_range ts ≡ true → AllByRecursion SevenDigits ts
 all_small [] h = tt
 all_small (t ∷ ts) h = (small t (first (tap_in_range t) (each_in_range ts) h), all_small ts (second (tap_in_range t) (each_in_range ts) h))
 

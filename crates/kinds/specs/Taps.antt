@@ -1,5 +1,5 @@
 -- The line of the taps kind.
-use Rattle.std.specs.Prelude.{ℕ, List, [], ℤ, pos, None, Option, unsigned_abs}
+use Rattle.std.specs.Prelude.{ℕ, [], pos, None, Option, unsigned_abs}
 use Rattle.channel.specs.Meaning.{Meaning}
 use Rattle.taps.specs.Held.{taps_of, noise_of}
 use Rattle.taps.specs.Rule.{taps_meaning, load_refusal}

@@ -1,11 +1,11 @@
 -- A text of digits, read from the left, and the texts that no number is written as.
-use Rattle.std.proofs.Common.{◌≡◌, ℕ, zero, suc, ◌+◌, ◌-◌, ◌*◌, ◌^◌, ◌<◌, ◌≤◌, List, [], ◌∷◌, length, get_or, take, drop, ℤ, pos, negsuc, neg_ℤ, nat_abs, decimal, sym, refl, ap, ◌∙◌, subst, inl, inr, arith, length-take}
+use Rattle.std.proofs.Common.{◌≡◌, ℕ, suc, ◌+◌, ◌-◌, ◌*◌, ◌^◌, ◌<◌, ◌≤◌, List, [], ◌∷◌, length, get_or, take, drop, ℤ, pos, negsuc, decimal, sym, refl, ap, ◌∙◌, subst, inl, inr, arith, length-take}
 use lib.Signed.{mag}
 use Rattle.std.specs.Str.Parse.{AllDigits, digits_value}
 use Rattle.std.specs.Int.{IsInRange}
 use Rattle.std.specs.Char.{digit_value}
 use Rattle.std.specs.Fmt.{signed_decimal}
-use Rattle.std.specs.List.{AllByRecursion as All}
+use Rattle.std.specs.List.{AllByRecursion}
 use Rattle.std.proofs.lemmas.Int.Digits.{digits_value_more, digits_more}
 use Rattle.std.proofs.ByRecursion.{All-from_get_or}
 use Rattle.std.proofs.lemmas.Str.{digit_value_digit}
@@ -67,11 +67,6 @@ after_minus [] rest h e f = absurd (omega arith)
 after_minus (x ∷ xs) rest h e f = ap (λ y. y ∷ xs) e ∙ ap (λ l. 45 ∷ l) (sym (f ∙ take_all (length (x ∷ xs) - 1) xs (omega arith)))
 
 -- after a minus
-pub minus_number :
-    (text rest : List ℕ) (n : ℕ) → text ≡ 45 ∷ rest → rest ≡ decimal n → 0 < n → n < 10 ^ 7 → (text ≡ signed_decimal (neg_ℤ (pos n))) × SevenDigits (neg_ℤ (pos n))
-minus_number text rest zero e f p h = absurd (omega arith)
-minus_number text rest (suc n) e f p h = (e ∙ ap (λ l. 45 ∷ l) f, h)
-
 pub no_minus_zero : (rest : List ℕ) → rest ≡ decimal 0 → (n : ℕ) → n < 10 ^ 7 → 0 < n → rest ≡ decimal n → ⊥
 no_minus_zero rest z n h p e = omega (arith, decimal_injective 0 n (omega arith) (omega arith) (sym z ∙ e))
 
@@ -84,11 +79,11 @@ minus_none text rest e none (pos n) h f = first_no_minus n h (ap (λ l. get_or l
 minus_none text rest e none (negsuc n) h f = none (suc n) h (omega arith) (ap (drop 1) (sym e ∙ f))
 
 -- what holds of every digit and of the minus holds of every byte of a number
-all_of_decimal : (P : ℕ → Type 0) → ((c : ℕ) → IsInRange 48 57 c → P c) → (n : ℕ) → n < 2 ^ 64 → All P (decimal n)
+all_of_decimal : (P : ℕ → Type 0) → ((c : ℕ) → IsInRange 48 57 c → P c) → (n : ℕ) → n < 2 ^ 64 → AllByRecursion P (decimal n)
 all_of_decimal P each n h =
     All-from_get_or P (decimal n) 0 (λ i l. each (get_or (decimal n) i 0) (digit_at (decimal n) i (digits_decimal own n h) l))
 
-pub all_of_number : (P : ℕ → Type 0) → ((c : ℕ) → IsInRange 48 57 c → P c) → P 45 → (z : ℤ) → SevenDigits z → All P (signed_decimal z)
+pub all_of_number : (P : ℕ → Type 0) → ((c : ℕ) → IsInRange 48 57 c → P c) → P 45 → (z : ℤ) → SevenDigits z → AllByRecursion P (signed_decimal z)
 all_of_number P each minus (pos n) h = all_of_decimal P each n (omega arith)
 all_of_number P each minus (negsuc n) h = (minus, all_of_decimal P each (suc n) (omega arith))
 

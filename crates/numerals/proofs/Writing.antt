@@ -49,11 +49,3 @@ the_last v n s bytes small low w =
     to_the_last (set bytes (s - 1) (48 + n)) (s - 1) (simp length-set w.long)
     ∙ put_before bytes s (48 + n) (omega arith) (omega (arith, w.long, w.within))
     ∙ sym (w.text ∙ ap (λ l. l ++ drop s bytes) (decimal_digit n low))
-
-pub minus_first :
-    (bytes : List ℕ) (s : ℕ) → 1 ≤ s → s ≤ 21 → length bytes ≡ 21
-    → take (21 - (s - 1)) (drop (s - 1) (set bytes (s - 1) 45)) ≡ 45 ∷ take (21 - s) (drop s bytes)
-minus_first bytes s some within long =
-    to_the_last (set bytes (s - 1) 45) (s - 1) (simp length-set long)
-    ∙ put_before bytes s 45 some (omega arith)
-    ∙ ap (λ l. 45 ∷ l) (sym (to_the_last bytes s long))

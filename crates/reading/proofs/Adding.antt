@@ -1,19 +1,18 @@
 -- A place that is added where both heads stand.
-use Rattle.std.proofs.Common.{◌≡◌, ℕ, ◌+◌, ◌≤◌, Bool, true, false, cond, not, ◌&&◌, eqb, leb, ◌⊎◌, List, [], ◌∷◌, ◌++◌, length, take, ℤ, Some, None, Ok, Err, MatchBool, Option, Result, sym, refl, ap, ◌∙◌, subst, inl, inr, arith, length-take, eq-eqb}
+use Rattle.std.proofs.Common.{◌≡◌, ℕ, Bool, true, cond, not, ◌&&◌, leb, List, [], ◌∷◌, ◌++◌, length, ℤ, Some, None, Ok, Err, MatchBool, Option, Result, sym, ap, ◌∙◌, subst, inr, arith, length-take, eq-eqb}
 use Rattle.std.proofs.lemmas.List.{length_push}
 use Rattle.std.proofs.lemmas.Bool.Decides.{nat_tests}
 use Rattle.channel.specs.Meaning.{Meaning, taken}
 use Rattle.channel.specs.Refusals.{first_of}
-use Rattle.channel.specs.declared.sample.Sample.{Sample}
+use Rattle.channel.specs.declared.Channel.{Ghosts}
 use Rattle.burst.specs.Places.{priors_allowed}
 use Rattle.burst.specs.declared.place.Place.{Place}
-use Rattle.burst.specs.declared.priors.Priors.{Priors}
 use Rattle.receiver.specs.Bursts.{places_of}
 use Rattle.receiver.specs.Changes.{Added}
 use Rattle.receiver.specs.Sound.{Sound}
 use Rattle.receiver.specs.Standing.{add_refusal}
 use Rattle.receiver.specs.declared.receiver.Receiver.{Receiver}
-use Rattle.forms.specs.Forms.{Form, place_form, Lawful}
+use Rattle.forms.specs.Forms.{Form}
 use Rattle.forms.specs.Lines.{priors_in, IsForm}
 use Rattle.forms.specs.declared.line.Line.{Line}
 use Rattle.forms.specs.declared.line.Line.TheVariants.{Place as APlace}
@@ -25,7 +24,7 @@ use Rattle.kinds.specs.Rules.{Rule, told_by}
 use Rattle.reading.specs.Lines.{At}
 use Rattle.reading.specs.Places.{all_fit, priors_of, place_of, place_refusal, Hands}
 use Rattle.reading.specs.Received.{state_of, Begun, AddsPlace}
-use Rattle.reading.specs.Steps.{Blame, State, ready, blamed, unless, received, a_place, after_heads}
+use Rattle.reading.specs.Steps.{ready, blamed, unless, received, a_place, after_heads}
 use Rattle.reading.proofs.Numbering.{handed_allowed}
 use Rattle.reading.proofs.Sayings.{does_say, says_place}
 
@@ -72,18 +71,18 @@ refused_place k n f q places x y ps number e some =
     ap (λ b. cond b (unless (received (place_refusal (k.meaning f) (length places) x y ps)) n (Ok (ready f q (places ++ (place_of x y ps ∷ []))))) (blamed n ByText 12)) (eq-eqb (length ps) k.symbols e)
     ∙ ap (λ o. unless (received o) n (Ok (ready f q (places ++ (place_of x y ps ∷ []))))) some
 
-counted : {C : Type 0} (w : Receiver C) → length (places_of w.burst) ≡ w.burst.count
+counted : {C : Type 0} {G : Ghosts C} (w : Receiver C G) → length (places_of w.burst) ≡ w.burst.count
 counted w = simp length-take (omega arith)
 
 -- what is handed to the receiver, and its answer
-pub record Handed {C : Type 0} (k : Rule) (form : C → Form) (m : Meaning) (before : Receiver C) (line : PlaceLine) (p : Place) : Type 0 where
+pub record Handed {C : Type 0} {G : Ghosts C} (k : Rule) (form : C → Form) (m : Meaning) (before : Receiver C G) (line : PlaceLine) (p : Place) : Type 0 where
   pub means : m ≡ k.meaning (form before.channel)
   pub many : length (priors_in line) ≡ k.symbols
   pub sample : p.sample ≡ line.sample
   pub priors : Hands (priors_in line) p.priors
 
 refusal_is :
-    {C : Type 0} (k : Rule) (form : C → Form) (m : Meaning) (before : Receiver C) (line : PlaceLine) (p : Place) (o : Option ℕ) → Handed k form m before line p
+    {C : Type 0} {G : Ghosts C} (k : Rule) (form : C → Form) (m : Meaning) (before : Receiver C G) (line : PlaceLine) (p : Place) (o : Option ℕ) → Handed k form m before line p
     → o ≡ add_refusal m before.burst.count p
     → place_refusal (k.meaning (form before.channel)) (length (places_of before.burst)) line.sample.first line.sample.second (priors_in line) ≡ o
 refusal_is k form m before line p o h e =
@@ -95,7 +94,7 @@ refusal_is k form m before line p o h e =
     ∙ sym e
 
 pub adds_place :
-    {C : Type 0} (k : Rule) (form : C → Form) (n : ℕ) (m : Meaning) (before after : Receiver C) (line : PlaceLine) (p : Place) → Handed k form m before line p
+    {C : Type 0} {G : Ghosts C} (k : Rule) (form : C → Form) (n : ℕ) (m : Meaning) (before after : Receiver C G) (line : PlaceLine) (p : Place) → Handed k form m before line p
     → None ≡ add_refusal m before.burst.count p → after.channel ≡ before.channel → Added before.burst after.burst p
     → after_heads k n (form before.channel) before.burst.depth (places_of before.burst) (a_place line.sample.first line.sample.second (priors_in line)) ≡ Ok (state_of form after)
 adds_place k form n m before after line p h e same a =
@@ -112,7 +111,7 @@ adds_place k form n m before after line p h e same a =
     taken_place k n f before.burst.depth (places_of before.burst) x y ps h.many none ∙ ap Ok (sym state)
 
 pub refuses_place :
-    {C : Type 0} (k : Rule) (form : C → Form) (n : ℕ) (m : Meaning) (before : Receiver C) (line : PlaceLine) (p : Place) (number : ℕ) → Handed k form m before line p
+    {C : Type 0} {G : Ghosts C} (k : Rule) (form : C → Form) (n : ℕ) (m : Meaning) (before : Receiver C G) (line : PlaceLine) (p : Place) (number : ℕ) → Handed k form m before line p
     → Some number ≡ add_refusal m before.burst.count p
     → after_heads k n (form before.channel) before.burst.depth (places_of before.burst) (a_place line.sample.first line.sample.second (priors_in line))
     ≡ Err (record { line = n; told = (ByReceiver, number) })
@@ -121,7 +120,7 @@ refuses_place k form n m before line p number h e =
     (refusal_is k form m before line p (Some number) h e)
 
 pub still_begun :
-    {C : Type 0} (m : Meaning) (before after : Receiver C) (p : Place) → Added before.burst after.burst p → (Sound m before.burst → Sound m after.burst)
+    {C : Type 0} {G : Ghosts C} (m : Meaning) (before after : Receiver C G) (p : Place) → Added before.burst after.burst p → (Sound m before.burst → Sound m after.burst)
     → Begun m before → Begun m after
 still_begun m before after p a sound b =
     record {
@@ -134,7 +133,7 @@ still_begun m before after p a sound b =
 
 -- a place line where both heads stand
 pub place_done :
-    {C X : Type 0} (k : Rule) (form : C → Form) (n : ℕ) (text : List ℕ) (line : Line) (i : IsForm text line) (p : PlaceLine) (before after : Receiver C) (r : Result X Cause)
+    {C X : Type 0} {G : Ghosts C} (k : Rule) (form : C → Form) (n : ℕ) (text : List ℕ) (line : Line) (i : IsForm text line) (p : PlaceLine) (before after : Receiver C G) (r : Result X Cause)
     → line ≡ APlace p → AddsPlace k form n p before after r → At k n (state_of form before) text (λ _. state_of form after) r
 place_done k form n text line i p before after (Ok x) e h =
     does_say k n (state_of form before) text line i (a_place p.sample.first p.sample.second (priors_in p)) (Ok (state_of form after)) (says_place text line i p e).0 h

@@ -1,5 +1,5 @@
 -- Written priors, one number after another.
-use Rattle.std.proofs.Common.{◌≡◌, ℕ, zero, suc, ◌+◌, ◌<◌, ◌≤◌, Bool, true, false, ◌&&◌, ◌≢◌, ◌⊎◌, List, [], ◌∷◌, length, get_or, take, set, pos, MatchBool, sym, refl, ap, ◌∙◌, subst, inl, inr, arith, length-set}
+use Rattle.std.proofs.Common.{◌≡◌, ℕ, zero, suc, ◌+◌, ◌<◌, ◌≤◌, Bool, true, false, ◌&&◌, ◌≢◌, List, [], ◌∷◌, length, get_or, take, set, pos, MatchBool, sym, refl, ap, ◌∙◌, subst, inl, inr, arith, length-set}
 use mathlib.Core.Path.{fun_ext}
 use mathlib.Core.HLevel.{is_prop→PathP}
 use native.Mathlib.Bridge.{le_prop}
@@ -10,7 +10,7 @@ use Rattle.std.proofs.lemmas.Bool.Decides.{nat_tests}
 use Rattle.burst.specs.Places.{priors_allowed}
 use Rattle.burst.specs.declared.priors.Priors.{Priors}
 use Rattle.forms.specs.declared.prior.Prior.{Prior}
-use Rattle.forms.specs.declared.prior.Prior.TheVariants.{Number, Barred}
+use Rattle.forms.specs.declared.prior.Prior.TheVariants.{Number}
 use Rattle.reading.specs.Places.{prior_fits, all_fit, number_of_prior, written, priors_of, Hands}
 
 -- priors with the same numbers are the same

@@ -1,13 +1,14 @@
 -- Lines taken one after another.
-use Rattle.std.proofs.Common.{◌≡◌, ℕ, ◌+◌, ◌<◌, ◌≤◌, ◌⊎◌, List, [], ◌∷◌, ◌++◌, length, Ok, Err, Result, sym, refl, ap, ◌∙◌, subst, inl, inr, append_assoc, arith, length-append}
-use Rattle.std.specs.List.{flat_map, AllByRecursion as All}
+use Rattle.std.proofs.Common.{◌≡◌, ℕ, ◌+◌, ◌<◌, ◌≤◌, List, [], ◌∷◌, ◌++◌, length, Ok, Err, Result, sym, refl, ap, ◌∙◌, subst, inl, inr, append_assoc, arith, length-append}
+use Rattle.std.specs.List.{flat_map, AllByRecursion}
 use Rattle.std.proofs.ByRecursion.{All-push}
 use Rattle.std.proofs.lemmas.List.{flat_map_more, length_push, nil_from_length}
 use Rattle.forms.specs.Forms.{Form, text_of, Lawful}
 use Rattle.text.specs.Cutting.{CutsLine}
-use Rattle.text.specs.Kinds.{Begins, NoForm}
+use Rattle.text.specs.Kinds.{Begins}
 use Rattle.text.proofs.Feeds.{first_is, none_left}
 use Rattle.kinds.specs.Rules.{Rule}
+use Rattle.channel.specs.declared.Channel.{Ghosts}
 use Rattle.receiver.specs.declared.receiver.Receiver.{Receiver}
 use Rattle.text.specs.declared.fault.Fault.{Fault}
 use Rattle.reading.specs.Lines.{Does, Outcome, blame_of}
@@ -18,7 +19,7 @@ use Rattle.reading.specs.Texts.{Runs, IsReady, Blames, ReadsFrom, ReadsText}
 -- what has been read
 pub record SoFar (k : Rule) (start : ℕ) (s : State) (text : List ℕ) (n : ℕ) (t : State) (rest : List ℕ) : Type 0 where
   pub forms : List Form
-  pub lawful : All Lawful forms
+  pub lawful : AllByRecursion Lawful forms
   pub parts : text ≡ flat_map text_of forms ++ rest
   pub run : Runs k start s forms t
   pub counted : n ≡ start + length forms
@@ -130,14 +131,14 @@ pub short_text : (k : Rule) (text : List ℕ) (r : Result State Blame) → lengt
 short_text k text r few g = record { long = λ h. absurd (omega arith); short = λ _. g }
 
 pub bad_heads :
-    {C : Type 0} (k : Rule) (form : C → Form) (text first rest second places : List ℕ) (e : Fault) → CutsLine text first rest → CutsLine rest second places
-    → ReadsHeads k form first second (Err e) → ReadsFrom k 1 bare text (Err (blame_of e))
-bad_heads k form text first rest second places e cut cut' (inl h) = at_once k 1 bare text first rest (blame_of e) cut (λ _ r. r) h
-bad_heads k form text first rest second places e cut cut' (inr (s, d, lacks, h)) =
+    {C : Type 0} (G : Ghosts C) (k : Rule) (form : C → Form) (text first rest second places : List ℕ) (e : Fault) → CutsLine text first rest → CutsLine rest second places
+    → ReadsHeads {G = G} k form first second (Err e) → ReadsFrom k 1 bare text (Err (blame_of e))
+bad_heads G k form text first rest second places e cut cut' (inl h) = at_once k 1 bare text first rest (blame_of e) cut (λ _ r. r) h
+bad_heads G k form text first rest second places e cut cut' (inr (s, d, lacks, h)) =
     then_rest k 1 bare s text first rest (Err (blame_of e)) cut d (at_once k 2 s rest second places (blame_of e) cut' (λ _ r. lacks r) h)
 
 pub good_heads :
-    {C : Type 0} (k : Rule) (form : C → Form) (text first rest second places : List ℕ) (w : Receiver C) (r : Result State Blame) → CutsLine text first rest
+    {C : Type 0} {G : Ghosts C} (k : Rule) (form : C → Form) (text first rest second places : List ℕ) (w : Receiver C G) (r : Result State Blame) → CutsLine text first rest
     → CutsLine rest second places → ReadsHeads k form first second (Ok w) → ReadsFrom k 3 (state_of form w) places r → ReadsFrom k 1 bare text r
 good_heads k form text first rest second places w r cut cut' (s, d, h) g =
     then_rest k 1 bare s text first rest r cut d (then_rest k 2 s (state_of form w) rest second places r cut' h g)

@@ -1,5 +1,5 @@
 -- What a line says, and what that does.
-use Rattle.std.proofs.Common.{◌≡◌, ℕ, ◌<◌, cond, ◌⊎◌, List, [], length, ℤ, Some, None, Ok, Err, Option, Result, sym, refl, ap, ◌∙◌, subst, inl, inr, arith, MatchResult}
+use Rattle.std.proofs.Common.{◌≡◌, ℕ, cond, List, [], ℤ, Some, None, Ok, Err, Result, sym, refl, ap, ◌∙◌, subst, inr, arith, MatchResult}
 use Rattle.forms.specs.Forms.{Form, taps_form, table_form, code_form, depth_form, place_form, head_of, text_of, Lawful}
 use Rattle.forms.specs.Lines.{said, held, priors_in, IsForm}
 use Rattle.forms.specs.declared.line.Line.{Line}
@@ -8,6 +8,7 @@ use Rattle.forms.specs.declared.line.PlaceLine.{PlaceLine}
 use Rattle.forms.specs.declared.prior.Prior.{Prior}
 use Rattle.numerals.specs.Numbers.{SevenDigits}
 use Rattle.channel.specs.Meaning.{Meaning}
+use Rattle.channel.specs.declared.Channel.{Ghosts}
 use Rattle.receiver.specs.Bursts.{places_of}
 use Rattle.receiver.specs.Standing.{depth_refusal}
 use Rattle.receiver.specs.declared.receiver.Receiver.{Receiver}
@@ -107,7 +108,7 @@ first_refused k text line i told e some =
 
 -- both heads
 pub tried_taken :
-    {C : Type 0} (k : Rule) (n : ℕ) (f : Form) (z : ℤ) (m : Meaning) (q : ℕ) (form : C → Form) (c : C) (w : Receiver C) → m ≡ k.meaning f → q ≡ depth_of z → form c ≡ f
+    {C : Type 0} {G : Ghosts C} (k : Rule) (n : ℕ) (f : Form) (z : ℤ) (m : Meaning) (q : ℕ) (form : C → Form) (c : C) (w : Receiver C G) → m ≡ k.meaning f → q ≡ depth_of z → form c ≡ f
     → Received m c q w → tried k n f z ≡ Ok (state_of form w)
 tried_taken k n f z m q form c w mk qz cf r =
     let none : depth_refusal (k.meaning f) (depth_of z) ≡ None = ap (λ l. depth_refusal l (depth_of z)) (sym mk) ∙ ap (depth_refusal m) (sym qz) ∙ r.allowed in

@@ -1,13 +1,13 @@
 -- A text has one answer.
-use Rattle.std.proofs.Common.{◌≡◌, ℕ, ◌+◌, ◌<◌, ◌≤◌, ◌⊎◌, List, [], ◌∷◌, ◌++◌, length, Ok, Err, Result, sym, refl, ap, ◌∙◌, subst, inl, inr, append_assoc, arith, length-append, MatchResult}
-use Rattle.std.specs.List.{flat_map, AllByRecursion as All}
+use Rattle.std.proofs.Common.{◌≡◌, ℕ, ◌+◌, List, [], ◌∷◌, ◌++◌, length, Ok, Err, Result, sym, refl, ap, ◌∙◌, subst, inl, inr, append_assoc, arith, length-append, MatchResult}
+use Rattle.std.specs.List.{flat_map, AllByRecursion}
 use Rattle.std.proofs.lemmas.Bool.{cases_lt}
 use Rattle.forms.specs.Forms.{Form, text_of, Lawful}
-use Rattle.text.specs.Kinds.{Begins, NoForm}
+use Rattle.text.specs.Kinds.{Begins}
 use Rattle.text.proofs.Feeds.{same_start, some_form}
 use Rattle.kinds.specs.Rules.{Rule}
 use Rattle.reading.specs.Steps.{Blame, State, bare, step}
-use Rattle.reading.specs.Texts.{Runs, IsReady, Blames, by_text, ReadsFrom, ReadsText, TextHasOneAnswer}
+use Rattle.reading.specs.Texts.{Runs, IsReady, Blames, ReadsFrom, TextHasOneAnswer}
 
 one_form : (f g : Form) (text : List ℕ) → Begins f text → Begins g text → f ≡ g
 one_form f g text a b = (same_start f g a.after b.after a.lawful b.lawful (sym a.parts ∙ b.parts)).0
@@ -39,7 +39,7 @@ begins : (f : Form) (fs : List Form) (x y : List ℕ) → Lawful f → y ≡ fla
 begins f fs x y l e = record { after = flat_map text_of fs ++ x; lawful = l; parts = e ∙ append_assoc (text_of f) (flat_map text_of fs) x }
 
 meet :
-    (k : Rule) (n : ℕ) (s t u : State) (fs gs : List Form) (x y : List ℕ) → All Lawful fs → All Lawful gs → Runs k n s fs t → Runs k n s gs u
+    (k : Rule) (n : ℕ) (s t u : State) (fs gs : List Form) (x y : List ℕ) → AllByRecursion Lawful fs → AllByRecursion Lawful gs → Runs k n s fs t → Runs k n s gs u
     → Stuck k (n + length fs) t x → Stuck k (n + length gs) u y → flat_map text_of fs ++ x ≡ flat_map text_of gs ++ y → (length fs ≡ length gs) × (t ≡ u) × (x ≡ y)
 meet k n s t u [] [] x y af ag rf rg st su e = (refl, sym rf ∙ rg, e)
 meet k n s t u [] (g ∷ gs) x y af ag rf (v, d, rg) st su e =

@@ -1,5 +1,5 @@
 -- What the readers of single lines answer.
-use Rattle.std.specs.Prelude.{◌≡◌, ℕ, ◌<◌, ◌⊎◌, List, length, ℤ, None, Ok, Err, Result, MatchResult, ◌≢◌}
+use Rattle.std.specs.Prelude.{◌≡◌, ℕ, ◌<◌, ◌⊎◌, List, length, ℤ, None, Ok, Err, Result, ◌≢◌}
 use Rattle.forms.specs.Forms.{Form, text_of, Lawful}
 use Rattle.text.specs.declared.fault.Cause.{Cause}
 use Rattle.text.specs.declared.fault.Fault.{Fault}

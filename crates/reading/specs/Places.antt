@@ -1,5 +1,5 @@
 -- The place that a line says, and its refusal.
-use Rattle.std.specs.Prelude.{◌≡◌, ℕ, ◌≤◌, min, Bool, true, false, cond, not, ◌&&◌, List, [], ◌∷◌, ℤ, pos, negsuc, MatchBool, Option, nat_le, nat_lt, slice_index_or, refl}
+use Rattle.std.specs.Prelude.{◌≡◌, ℕ, ◌≤◌, min, Bool, true, false, not, ◌&&◌, List, [], ◌∷◌, ℤ, pos, negsuc, MatchBool, Option, nat_le, nat_lt, slice_index_or, refl}
 use Rattle.std.proofs.Common.{zero-le, arith, lit≤}
 use Rattle.channel.specs.Meaning.{Meaning, taken}
 use Rattle.channel.specs.Refusals.{first_of}

@@ -1,10 +1,8 @@
 -- Reading a whole text: its lines in turn, up to the first that is blamed.
 use Rattle.std.specs.Prelude.{◌≡◌, ℕ, ◌+◌, ◌<◌, ◌≤◌, ◌⊎◌, List, [], ◌∷◌, ◌++◌, length, Ok, Err, Result, MatchResult}
-use Rattle.std.specs.List.{flat_map, AllByRecursion as All}
-use Rattle.burst.specs.declared.place.Place.{Place}
+use Rattle.std.specs.List.{flat_map, AllByRecursion}
 use Rattle.forms.specs.Forms.{Form, text_of, Lawful}
 use Rattle.text.specs.Kinds.{Begins, NoForm}
-use Rattle.text.specs.declared.fault.Layer.{Layer}
 use Rattle.text.specs.declared.fault.Layer.TheVariants.{Text}
 use Rattle.kinds.specs.Rules.{Rule}
 use Rattle.reading.specs.Steps.{Blame, State, bare, tuned, deep, ready, step}
@@ -36,7 +34,7 @@ pub record ReadsFrom (k : Rule) (line : ℕ) (start : State) (text : List ℕ) (
   pub forms : List Form
   pub last : State
   pub rest : List ℕ
-  pub lawful : All Lawful forms
+  pub lawful : AllByRecursion Lawful forms
   pub parts : text ≡ flat_map text_of forms ++ rest
   pub run : Runs k line start forms last
   pub ends : MatchResult r (λ s. (rest ≡ []) × (s ≡ last) × IsReady last) (λ b. Blames k (line + length forms) last rest b)

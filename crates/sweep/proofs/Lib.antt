@@ -1,5 +1,3 @@
 mod Full
-mod Passing
-mod Priors
 mod Indices
 mod Own

@@ -15,6 +15,6 @@ pub record Sized (m : Meaning) (symbols states : ℕ) : Type 0 where
 -- What a sweep that is not refused can rest on: few places, and room in the lists.
 pub record Roomy (symbols states places forward backward answers : ℕ) : Type 0 where
   pub few : places ≤ 128
-  pub forward_room_lem : (places + 1) * states ≤ forward
-  pub backward_room_lem : (places + 1) * states ≤ backward
+  pub forward_room : (places + 1) * states ≤ forward
+  pub backward_room : (places + 1) * states ≤ backward
   pub answers_room : places * symbols ≤ answers

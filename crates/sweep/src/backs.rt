@@ -25,8 +25,8 @@ fn lead_on<C: Channel, J: Joining>(
     requires place { column < length places.now }
     requires state { state < sizes.states }
     requires room { (column + 1 + 1) * sizes.states ≤ length backward.now }
-    requires after { Column operations.none backward.now sizes.states (column + 1) (backward_element_of (full_trellis operations worthOf (C.meaning channel.now) places.now) (length places.now) (column + 1)) }
-    ensures { result ≡ backward_element_of (full_trellis operations worthOf (C.meaning channel.now) places.now) (length places.now) column state }
+    requires after { Column J.operations.none backward.now sizes.states (column + 1) (backward_element_of (full_trellis J.operations J.worth_of (C.meaning channel.now) places.now) (length places.now) (column + 1)) }
+    ensures { result ≡ backward_element_of (full_trellis J.operations J.worth_of (C.meaning channel.now) places.now) (length places.now) column state }
 {
     let mut ways = J::none();
     for symbol in 0..sizes.symbols {
@@ -50,8 +50,8 @@ fn backward_element<C: Channel, J: Joining>(
     requires few { length places.now ≤ 128 }
     requires index { index < (length places.now + 1) * sizes.states }
     requires room { (length places.now + 1) * sizes.states ≤ length backward.now }
-    requires after { Holds operations.none backward.now sizes.states (index + 1) ((length places.now + 1) * sizes.states) (backward_element_of (full_trellis operations worthOf (C.meaning channel.now) places.now) (length places.now)) }
-    ensures { result ≡ backward_element_of (full_trellis operations worthOf (C.meaning channel.now) places.now) (length places.now) (index / sizes.states) (index % sizes.states) }
+    requires after { Holds J.operations.none backward.now sizes.states (index + 1) ((length places.now + 1) * sizes.states) (backward_element_of (full_trellis J.operations J.worth_of (C.meaning channel.now) places.now) (length places.now)) }
+    ensures { result ≡ backward_element_of (full_trellis J.operations J.worth_of (C.meaning channel.now) places.now) (length places.now) (index / sizes.states) (index % sizes.states) }
 {
     let column = index / sizes.states;
     let state = index % sizes.states;
@@ -71,7 +71,7 @@ pub(crate) fn fill_backward<C: Channel, J: Joining>(
     requires sized { Sized (C.meaning channel.now) sizes.symbols sizes.states }
     requires few { length places.now ≤ 128 }
     requires room { (length places.now + 1) * sizes.states ≤ length backward.old }
-    ensures { Filled operations.none backward.old backward.new (length places.now + 1) sizes.states (backward_element_of (full_trellis operations worthOf (C.meaning channel.now) places.now) (length places.now)) }
+    ensures { Filled J.operations.none backward.old backward.new (length places.now + 1) sizes.states (backward_element_of (full_trellis J.operations J.worth_of (C.meaning channel.now) places.now) (length places.now)) }
 {
     for index in (0..column_elements(places.len(), sizes)).rev() {
         let value = backward_element(channel, places, sizes, backward, index);

@@ -13,7 +13,7 @@ use joining::Joining;
 
 // The element of a history in column 0: unit at the history of zeros, and none elsewhere.
 fn start_element<J: Joining>(state: usize) -> J
-    ensures { result ≡ (if nat_eq state 0 then operations.unit else operations.none) }
+    ensures { result ≡ (if nat_eq state 0 then J.operations.unit else J.operations.none) }
 {
     if state == 0 { J::unit() } else { J::none() }
 }
@@ -32,8 +32,8 @@ fn gather<C: Channel, J: Joining>(
     requires place { column < length places.now }
     requires state { state < sizes.states }
     requires room { (column + 1) * sizes.states ≤ length forward.now }
-    requires before { Column operations.none forward.now sizes.states column (forward_element_of (full_trellis operations worthOf (C.meaning channel.now) places.now) column) }
-    ensures { result ≡ forward_element_of (full_trellis operations worthOf (C.meaning channel.now) places.now) (column + 1) state }
+    requires before { Column J.operations.none forward.now sizes.states column (forward_element_of (full_trellis J.operations J.worth_of (C.meaning channel.now) places.now) column) }
+    ensures { result ≡ forward_element_of (full_trellis J.operations J.worth_of (C.meaning channel.now) places.now) (column + 1) state }
 {
     let mut ways = J::none();
     for oldest in 0..sizes.symbols {
@@ -58,8 +58,8 @@ fn forward_element<C: Channel, J: Joining>(
     requires few { length places.now ≤ 128 }
     requires index { index < (length places.now + 1) * sizes.states }
     requires room { (length places.now + 1) * sizes.states ≤ length forward.now }
-    requires before { Holds operations.none forward.now sizes.states 0 index (forward_element_of (full_trellis operations worthOf (C.meaning channel.now) places.now)) }
-    ensures { result ≡ forward_element_of (full_trellis operations worthOf (C.meaning channel.now) places.now) (index / sizes.states) (index % sizes.states) }
+    requires before { Holds J.operations.none forward.now sizes.states 0 index (forward_element_of (full_trellis J.operations J.worth_of (C.meaning channel.now) places.now)) }
+    ensures { result ≡ forward_element_of (full_trellis J.operations J.worth_of (C.meaning channel.now) places.now) (index / sizes.states) (index % sizes.states) }
 {
     let column = index / sizes.states;
     let state = index % sizes.states;
@@ -79,7 +79,7 @@ pub(crate) fn fill_forward<C: Channel, J: Joining>(
     requires sized { Sized (C.meaning channel.now) sizes.symbols sizes.states }
     requires few { length places.now ≤ 128 }
     requires room { (length places.now + 1) * sizes.states ≤ length forward.old }
-    ensures { Filled operations.none forward.old forward.new (length places.now + 1) sizes.states (forward_element_of (full_trellis operations worthOf (C.meaning channel.now) places.now)) }
+    ensures { Filled J.operations.none forward.old forward.new (length places.now + 1) sizes.states (forward_element_of (full_trellis J.operations J.worth_of (C.meaning channel.now) places.now)) }
 {
     for index in 0..column_elements(places.len(), sizes) {
         let value = forward_element(channel, places, sizes, forward, index);

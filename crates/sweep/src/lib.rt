@@ -24,7 +24,7 @@ pub use pins::pin;
 /// Fills three lists with what the sequences of a burst are worth, at full memory.
 ///
 /// With n histories and M symbols, the element of history s in column k stands at k·n + s of the forward and the backward list, for k from 0 to the
-/// number of places, and the answer for symbol a at place k at typeof.k.M + a. A forward element joins the choices of the symbols before place k that leave
+/// number of places, and the answer for symbol a at place k at k·M + a. A forward element joins the choices of the symbols before place k that leave
 /// history s, a backward element the choices of those from place k on, and an answer the sequences with a at k. Elements past those keep their contents,
 /// and a refused sweep writes none.
 pub fn sweep<C: Channel, J: Joining>(
@@ -35,10 +35,10 @@ pub fn sweep<C: Channel, J: Joining>(
     answers: &mut [J],
 ) -> Result<(), Refusal>
     ensures refusal { refused_by result ≡ sweep_refusal (C.meaning channel.now) places.now (length forward.old) (length backward.old) (length answers.old) }
-    ensures forward { ForwardStands operations worthOf (C.meaning channel.now) places.now result forward.old forward.new }
-    ensures backward { BackwardStands operations worthOf (C.meaning channel.now) places.now result backward.old backward.new }
-    ensures answers { AnswersStand operations worthOf (C.meaning channel.now) places.now result answers.old answers.new }
-    ensures own { OnOk result (OwnWindows operations worthOf (C.meaning channel.now) places.now) }
+    ensures forward { ForwardStands J.operations J.worth_of (C.meaning channel.now) places.now result forward.old forward.new }
+    ensures backward { BackwardStands J.operations J.worth_of (C.meaning channel.now) places.now result backward.old backward.new }
+    ensures answers { AnswersStand J.operations J.worth_of (C.meaning channel.now) places.now result answers.old answers.new }
+    ensures own { OnOk result (OwnWindows J.operations J.worth_of (C.meaning channel.now) places.now) }
 {
     let sizes = sizes::sizes_of(channel);
     let lengths = checks::Lengths {

@@ -28,9 +28,9 @@ fn meet<C: Channel, J: Joining>(
     requires symbol { symbol < sizes.symbols }
     requires forward_room { (length places.now + 1) * sizes.states ≤ length forward.now }
     requires backward_room { (length places.now + 1) * sizes.states ≤ length backward.now }
-    requires fronts { Columns operations.none forward.now sizes.states (length places.now + 1) (forward_element_of (full_trellis operations worthOf (C.meaning channel.now) places.now)) }
-    requires backs { Columns operations.none backward.now sizes.states (length places.now + 1) (backward_element_of (full_trellis operations worthOf (C.meaning channel.now) places.now) (length places.now)) }
-    ensures { result ≡ answer_element (full_trellis operations worthOf (C.meaning channel.now) places.now) (length places.now) place symbol }
+    requires fronts { Columns J.operations.none forward.now sizes.states (length places.now + 1) (forward_element_of (full_trellis J.operations J.worth_of (C.meaning channel.now) places.now)) }
+    requires backs { Columns J.operations.none backward.now sizes.states (length places.now + 1) (backward_element_of (full_trellis J.operations J.worth_of (C.meaning channel.now) places.now) (length places.now)) }
+    ensures { result ≡ answer_element (full_trellis J.operations J.worth_of (C.meaning channel.now) places.now) (length places.now) place symbol }
 {
     let mut ways = J::none();
     for state in 0..sizes.states {
@@ -57,10 +57,10 @@ pub(crate) fn fill_answers<C: Channel, J: Joining>(
     requires room { length places.now * sizes.symbols ≤ length answers.old }
     requires forward_room { (length places.now + 1) * sizes.states ≤ length forward.now }
     requires backward_room { (length places.now + 1) * sizes.states ≤ length backward.now }
-    requires fronts { Columns operations.none forward.now sizes.states (length places.now + 1) (forward_element_of (full_trellis operations worthOf (C.meaning channel.now) places.now)) }
-    requires backs { Columns operations.none backward.now sizes.states (length places.now + 1) (backward_element_of (full_trellis operations worthOf (C.meaning channel.now) places.now) (length places.now)) }
-    ensures filled { Filled operations.none answers.old answers.new (length places.now) sizes.symbols (answer_element (full_trellis operations worthOf (C.meaning channel.now) places.now) (length places.now)) }
-    ensures own { OwnWindows operations worthOf (C.meaning channel.now) places.now }
+    requires fronts { Columns J.operations.none forward.now sizes.states (length places.now + 1) (forward_element_of (full_trellis J.operations J.worth_of (C.meaning channel.now) places.now)) }
+    requires backs { Columns J.operations.none backward.now sizes.states (length places.now + 1) (backward_element_of (full_trellis J.operations J.worth_of (C.meaning channel.now) places.now) (length places.now)) }
+    ensures filled { Filled J.operations.none answers.old answers.new (length places.now) sizes.symbols (answer_element (full_trellis J.operations J.worth_of (C.meaning channel.now) places.now) (length places.now)) }
+    ensures own { OwnWindows J.operations J.worth_of (C.meaning channel.now) places.now }
 {
     for index in 0..answer_elements(places.len(), sizes) {
         let place = index / sizes.symbols;

@@ -77,8 +77,8 @@ fn check_pin(symbols: usize, places: &[Place], place: usize, value: usize) -> Re
 /// Pins a place of a burst to a value, for a kind of channel: the priors of the kind's other values there become barred. The prior of the value, those of
 /// values that are no symbols, the sample and all other records stay. A refused call changes nothing.
 pub fn pin<C: Channel>(places: &mut [Place], place: usize, value: usize) -> Result<(), Refusal>
-    ensures refusal { refused_by result ≡ pin_refusal symbols places.old place value }
-    ensures stands { PinStands result symbols places.old places.new place value }
+    ensures refusal { refused_by result ≡ pin_refusal C.symbols places.old place value }
+    ensures stands { PinStands result C.symbols places.old places.new place value }
 {
     let alphabet = C::alphabet();
     check_pin(alphabet, places, place, value)?;

@@ -40,7 +40,7 @@ pub(crate) fn weight<C: Channel, J: Joining>(
     requires sized { Sized (C.meaning channel.now) sizes.symbols sizes.states }
     requires history { history < 128 }
     requires symbol { symbol < 4 }
-    ensures { result ≡ step_worth operations worthOf (C.meaning channel.now) place history symbol }
+    ensures { result ≡ step_worth J.operations J.worth_of (C.meaning channel.now) place history symbol }
 {
     let window = window_of(sizes, history, symbol);
     J::worth(channel.cost(place.sample, window)).follow(J::worth(place.priors.cost(symbol)))
@@ -52,21 +52,21 @@ pub(crate) fn element<J: Joining>(list: &[J], sizes: Sizes, column: usize, state
     requires small { sizes.states ≤ 128 }
     requires state { state < sizes.states }
     requires room { (column + 1) * sizes.states ≤ length list.now }
-    ensures { result ≡ slice_index_or list.now (column * sizes.states + state) operations.none }
+    ensures { result ≡ slice_index_or list.now (column * sizes.states + state) J.operations.none }
 {
     list[column * sizes.states + state]
 }
 
 /// The ways so far, joined with one way more: a part of it and then the next.
 pub(crate) fn join_way<J: Joining>(ways: J, part: J, next: J) -> J
-    ensures { result ≡ operations.join ways (operations.follow part next) }
+    ensures { result ≡ J.operations.join ways (J.operations.follow part next) }
 {
     ways.join(part.follow(next))
 }
 
 /// The ways so far, joined with one way more through a step: what comes before it, the step, and what comes after.
 pub(crate) fn join_through<J: Joining>(ways: J, before: J, step: J, after: J) -> J
-    ensures { result ≡ operations.join ways (operations.follow (operations.follow before step) after) }
+    ensures { result ≡ J.operations.join ways (J.operations.follow (J.operations.follow before step) after) }
 {
     ways.join(before.follow(step).follow(after))
 }

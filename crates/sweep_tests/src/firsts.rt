@@ -27,7 +27,7 @@ impl Firsts {
 impl Joining for Firsts {
     ghost operations = { firsts_operations };
 
-    ghost worthOf = { firsts_worth };
+    ghost worth_of = { firsts_worth };
 
     ghost laws = { firsts_laws };
 

@@ -1,10 +1,9 @@
 -- The expected number of a window is the echo of its symbols: the newest symbol is the lowest digit, the others are those of the half.
-use Rattle.std.proofs.Common.{◌≡◌, ℕ, ◌+◌, ◌*◌, ◌/◌, List, [], ◌∷◌, length, ℤ, ◌+ℤ◌, sym, refl, ap, ◌∙◌, arith}
-use Rattle.std.specs.List.{AllByRecursion as All}
+use Rattle.std.proofs.Common.{◌≡◌, ℕ, ◌+◌, ◌*◌, ◌/◌, List, [], ◌∷◌, ℤ, ◌+ℤ◌, refl, ap, ◌∙◌, arith}
 use Rattle.channel.specs.Windows.{window_number, symbol_at}
 use Rattle.channel.proofs.Windows.{one_back, newest, half}
-use Rattle.taps.specs.Rule.{symbol_times, echo, expected}
-use Rattle.taps.specs.Echo.{echo_of, ExpectedIsTheEcho}
+use Rattle.taps.specs.Rule.{symbol_times, echo}
+use Rattle.taps.specs.Echo.{ExpectedIsTheEcho}
 
 echo_back : (taps : List ℤ) (i w : ℕ) → echo (i + 1) taps w ≡ echo i taps (w / 2)
 echo_back [] i w = refl

@@ -1,6 +1,6 @@
 -- What the expected number is, said of the symbols themselves.
 use Rattle.std.specs.Prelude.{◌≡◌, ℕ, ◌<◌, List, [], ◌∷◌, length, ℤ, pos, ◌+ℤ◌}
-use Rattle.std.specs.List.{AllByRecursion as All}
+use Rattle.std.specs.List.{AllByRecursion}
 use Rattle.channel.specs.Windows.{window_number}
 use Rattle.taps.specs.Rule.{symbol_times, expected}
 
@@ -13,5 +13,5 @@ echo_of (t ∷ ts) (newest ∷ before) = symbol_times t newest +ℤ echo_of ts b
 -- Under the window of any symbols, the newest first and as many as there are taps, the expected number is their echo.
 abbrev pub ExpectedIsTheEcho : Type 0
 ExpectedIsTheEcho =
-    (taps : List ℤ) (symbols : List ℕ) → length symbols ≡ length taps → All (λ a. a < 2) symbols
+    (taps : List ℤ) (symbols : List ℕ) → length symbols ≡ length taps → AllByRecursion (λ a. a < 2) symbols
     → expected taps (window_number 2 symbols) ≡ echo_of taps symbols

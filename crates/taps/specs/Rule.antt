@@ -1,7 +1,6 @@
 -- The rule of the taps kind, over the taps and the noise.
 use Rattle.std.specs.Prelude.{ℕ, ◌+◌, Bool, true, false, cond, not, ◌&&◌, List, [], ◌∷◌, length, ℤ, pos, ◌+ℤ◌, neg_ℤ, Option, ◌==◌, nat_le, unsigned_abs}
 use Rattle.channel.specs.Refusals.{first_of}
-use Rattle.channel.specs.declared.sample.Sample.{Sample}
 use Rattle.channel.specs.Samples.{between}
 use Rattle.channel.specs.Windows.{symbol_at}
 use Rattle.channel.specs.Distances.{square, distance_cost, in_noise_range}

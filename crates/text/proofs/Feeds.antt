@@ -1,8 +1,8 @@
 -- The text of a form is one line, and a text is cut into lines in one way only.
-use Rattle.std.proofs.Common.{◌≡◌, ℕ, ◌+◌, ◌-◌, ◌<◌, ◌≤◌, Bool, true, false, not, ◌&&◌, eqb, ◌⊎◌, List, [], ◌∷◌, ◌++◌, length, get_or, take, drop, ℤ, codes, sym, refl, ap, ◌∙◌, subst, inl, inr, append_assoc, arith, length-append}
+use Rattle.std.proofs.Common.{◌≡◌, ℕ, ◌+◌, ◌<◌, Bool, true, not, ◌&&◌, eqb, List, [], ◌∷◌, ◌++◌, length, get_or, take, drop, ℤ, codes, sym, refl, ap, ◌∙◌, subst, inl, inr, append_assoc, arith, length-append}
 use Rattle.std.specs.Int.{IsInRange}
 use Rattle.std.specs.Fmt.{signed_decimal}
-use Rattle.std.specs.List.{flat_map, AllByRecursion as All}
+use Rattle.std.specs.List.{flat_map, AllByRecursion}
 use Rattle.std.proofs.ByRecursion.{All-append, All-drop}
 use Rattle.std.proofs.lemmas.List.Prefix.{front_rest}
 use Rattle.std.proofs.lemmas.List.{take_more, append-nil, nil_from_length}
@@ -22,7 +22,7 @@ use Rattle.text.specs.Cutting.{NoFeed, WholeLine, FirstLine, CutsLine}
 
 -- a loop over a text finds the first line feed
 pub feed_at :
-    (text : List ℕ) (i : ℕ) → i < length text → All NoFeed (take i text) → get_or text i 0 ≡ 10 → FirstLine (take (i + 1) text) (drop (i + 1) text)
+    (text : List ℕ) (i : ℕ) → i < length text → AllByRecursion NoFeed (take i text) → get_or text i 0 ≡ 10 → FirstLine (take (i + 1) text) (drop (i + 1) text)
 feed_at text i h p e = inl (take i text, take_more text i 0 h ∙ ap (λ (c : ℕ). take i text ++ c ∷ []) e, p)
 
 -- two texts that begin with whole lines
@@ -43,38 +43,38 @@ first c b h e = grind (arith, nat_tests)
 later : (c : ℕ) (b : Bool) → (not (eqb c 10) && b) ≡ true → b ≡ true
 later c b h = grind (arith, nat_tests)
 
-plain : (bytes : List ℕ) → no_feed bytes ≡ true → All NoFeed bytes
+plain : (bytes : List ℕ) → no_feed bytes ≡ true → AllByRecursion NoFeed bytes
 plain [] h = tt
 plain (c ∷ bytes) h = (λ e. first c (no_feed bytes) h e, plain bytes (later c (no_feed bytes) h))
 
 digit : (c : ℕ) → IsInRange 48 57 c → NoFeed c
 digit c d e = omega arith
 
-number : (z : ℤ) → SevenDigits z → All NoFeed (signed_decimal z)
+number : (z : ℤ) → SevenDigits z → AllByRecursion NoFeed (signed_decimal z)
 number = all_of_number NoFeed digit (λ e. omega arith)
 
-prior : (p : Prior) → PriorLawful p → All NoFeed (prior_text p)
+prior : (p : Prior) → PriorLawful p → AllByRecursion NoFeed (prior_text p)
 prior (Number z) h = number z h
 prior Barred h = plain (codes "barred") refl
 
-entry : (e : Entry) → EntryLawful e → All NoFeed (entry_text e)
+entry : (e : Entry) → EntryLawful e → AllByRecursion NoFeed (entry_text e)
 entry BarredEntry h = plain (codes "barred") refl
 entry (Expected a b) h =
     All-append NoFeed (codes "(") _ (plain (codes "(") refl) (All-append NoFeed (signed_decimal a) _ (number a h.0)
     (All-append NoFeed (codes " ") _ (plain (codes " ") refl) (All-append NoFeed (signed_decimal b) (codes ")") (number b h.1) (plain (codes ")") refl))))
 
 -- bytes before a whole line
-after : (v l : List ℕ) → All NoFeed v → WholeLine l → WholeLine (v ++ l)
+after : (v l : List ℕ) → AllByRecursion NoFeed v → WholeLine l → WholeLine (v ++ l)
 after v l p (x, e, q) = (v ++ x, ap (λ k. v ++ k) e ∙ sym (append_assoc v x feed), All-append NoFeed v x p q)
 
-pieces : {X : Type 0} (write : X → List ℕ) (lawful : X → Type 0) → ((x : X) → lawful x → All NoFeed (write x)) → (xs : List X) → All lawful xs → WholeLine (listed write xs)
+pieces : {X : Type 0} (write : X → List ℕ) (lawful : X → Type 0) → ((x : X) → lawful x → AllByRecursion NoFeed (write x)) → (xs : List X) → AllByRecursion lawful xs → WholeLine (listed write xs)
 pieces write lawful each [] h = (codes "))", refl, plain (codes "))") refl)
 pieces write lawful each (x ∷ xs) h =
     let t = pieces write lawful each xs h.1 in
     let w = after (32 ∷ write x) (listed write xs) (λ e. omega arith, each x h.0) t in
     subst WholeLine (sym (append_assoc (32 ∷ write x) (flat_map (λ y. 32 ∷ write y) xs) (codes "))" ++ feed))) w
 
-opens : (h : Head) → All NoFeed (opening h)
+opens : (h : Head) → AllByRecursion NoFeed (opening h)
 opens Taps = plain (opening Taps) refl
 opens Table = plain (opening Table) refl
 opens Code = plain (opening Code) refl
@@ -111,10 +111,10 @@ pub some_form : (f : Form) → Lawful f → 0 < length (text_of f)
 some_form f l = some_line (text_of f) (form_is_a_line f l)
 
 -- where there is no line feed, there is no whole line
-no_line : (text line more : List ℕ) → All NoFeed text → WholeLine line → text ≡ line ++ more → ⊥
+no_line : (text line more : List ℕ) → AllByRecursion NoFeed text → WholeLine line → text ≡ line ++ more → ⊥
 no_line text line more p (x, e, q) h =
     let is : text ≡ x ++ 10 ∷ more = h ∙ ap (λ l. l ++ more) e ∙ append_assoc x feed more in
-    let d : All NoFeed (10 ∷ more) = subst (All NoFeed) (front_rest text x (10 ∷ more) is) (All-drop NoFeed (length x) text p) in
+    let d : AllByRecursion NoFeed (10 ∷ more) = subst (AllByRecursion NoFeed) (front_rest text x (10 ∷ more) is) (All-drop NoFeed (length x) text p) in
     d.0 refl
 
 -- the first line of a text that begins with a form's line is that

@@ -1,20 +1,20 @@
 -- The kind of a text's channel, line by line, and that there is one answer.
-use Rattle.std.proofs.Common.{◌≡◌, ℕ, ◌+◌, ◌<◌, ◌≤◌, ◌⊎◌, List, [], ◌∷◌, ◌++◌, length, Some, None, Ok, Err, Option, Result, sym, refl, ap, ◌∙◌, subst, inl, inr, append_assoc, arith, length-append, MatchResult}
-use Rattle.std.specs.List.{flat_map, AllByRecursion as All}
+use Rattle.std.proofs.Common.{◌≡◌, ℕ, ◌+◌, ◌≤◌, ◌⊎◌, List, [], ◌∷◌, ◌++◌, length, Some, None, Ok, Err, Option, Result, sym, refl, ap, ◌∙◌, subst, inl, inr, arith, length-append, MatchResult}
+use Rattle.std.specs.List.{flat_map, AllByRecursion}
 use Rattle.std.proofs.lemmas.List.{append-nil}
 use Rattle.std.proofs.lemmas.Bool.{cases_lt}
 use Rattle.forms.specs.Forms.{Form, taps_form, table_form, code_form, depth_form, place_form, head_of, text_of, Lawful}
 use Rattle.forms.specs.Lines.{said, held, IsForm}
 use Rattle.forms.specs.declared.head.Head.{Head}
-use Rattle.forms.specs.declared.head.Head.TheVariants.{Taps, Table, Code, Depth, Place}
+use Rattle.forms.specs.declared.head.Head.TheVariants.{Depth, Place}
 use Rattle.forms.specs.declared.line.Line.{Line}
 use Rattle.text.specs.declared.fault.Cause.{Cause}
 use Rattle.text.specs.declared.fault.Cause.TheVariants.{Text}
 use Rattle.text.specs.declared.fault.Fault.{Fault}
-use Rattle.text.specs.declared.fault.Malformed.TheVariants.{NotAForm, Heads, TooLong}
+use Rattle.text.specs.declared.fault.Malformed.TheVariants.{Heads}
 use Rattle.text.specs.declared.kind.Kind.{Kind}
 use Rattle.text.specs.Cutting.{CutsLine}
-use Rattle.text.specs.Kinds.{kind_of, Begins, NoForm, Misplaced, Blames, Found, FindsKind, KindHasOneAnswer, ReadsHead}
+use Rattle.text.specs.Kinds.{kind_of, Begins, NoForm, Misplaced, Blames, Found, KindHasOneAnswer, ReadsHead}
 use Rattle.text.proofs.Feeds.{same_start, some_form, first_is, none_left}
 
 -- a line begins as the form that it was read from
@@ -31,7 +31,7 @@ read_head text line k = sym (ap head_of k.says ∙ held_head k.form)
 -- the depth lines before the rest of a text
 pub record Before (text rest : List ℕ) (depths : List Form) : Type 0 where
   pub parts : text ≡ flat_map text_of depths ++ rest
-  pub all_depths : All (λ f. Lawful f × (head_of f ≡ Depth)) depths
+  pub all_depths : AllByRecursion (λ f. Lawful f × (head_of f ≡ Depth)) depths
   pub one_at_most : length depths ≤ 1
 
 pub none_before : (text : List ℕ) → Before text text []
@@ -164,7 +164,7 @@ begins_with : (d : Form) (text rest : List ℕ) → Lawful d → text ≡ (text_
 begins_with d text rest l e = record { after = rest; lawful = l; parts = e ∙ ap (λ k. k ++ rest) (append-nil (text_of d)) }
 
 abbrev Depths : List Form → Type 0
-Depths fs = All (λ f. Lawful f × (head_of f ≡ Depth)) fs
+Depths fs = AllByRecursion (λ f. Lawful f × (head_of f ≡ Depth)) fs
 
 meet :
     (text : List ℕ) (fs gs : List Form) (x y : List ℕ) (r s : Result Kind Fault) → text ≡ flat_map text_of fs ++ x → text ≡ flat_map text_of gs ++ y

@@ -1,6 +1,6 @@
 -- Finding the kind of a text's channel: which line decides it, or is blamed.
-use Rattle.std.specs.Prelude.{◌≡◌, ℕ, ◌+◌, ◌<◌, ◌≤◌, ◌⊎◌, List, [], ◌∷◌, ◌++◌, length, Some, None, Ok, Err, Option, Result, MatchResult, ◌≢◌}
-use Rattle.std.specs.List.{flat_map, AllByRecursion as All}
+use Rattle.std.specs.Prelude.{◌≡◌, ℕ, ◌+◌, ◌<◌, ◌≤◌, ◌⊎◌, List, [], ◌++◌, length, Some, None, Ok, Err, Option, Result, MatchResult, ◌≢◌}
+use Rattle.std.specs.List.{flat_map, AllByRecursion}
 use Rattle.forms.specs.Forms.{Form, head_of, text_of, Lawful}
 use Rattle.forms.specs.declared.head.Head.{Head}
 use Rattle.forms.specs.declared.head.Head.TheVariants.{Taps, Table, Code, Depth, Place}
@@ -44,7 +44,7 @@ pub record Found (text : List ℕ) (r : Result Kind Fault) : Type 0 where
   pub depths : List Form
   pub rest : List ℕ
   pub parts : text ≡ flat_map text_of depths ++ rest
-  pub all_depths : All (λ f. Lawful f × (head_of f ≡ Depth)) depths
+  pub all_depths : AllByRecursion (λ f. Lawful f × (head_of f ≡ Depth)) depths
   pub one_at_most : length depths ≤ 1
   pub decided :
       MatchResult r (λ kind. (f : Form) × Begins f rest × (kind_of (head_of f) ≡ Some kind))

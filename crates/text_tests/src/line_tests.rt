@@ -70,7 +70,7 @@ fn wide_taps_become_the_nearest(rt: HostRuntime) -> Result<(), Fail> {
     let line = read_line(b"(channel (kind taps) (noise 8) (taps 100000 -100000 7))\n")?;
     match line {
         Line::Taps(line) => {
-            assert!(rt; line.taps() == [32_767, -32_768, 7]);
+            assert!(rt; line.taps() == [32_767, -32_768, 7].as_slice());
             Ok(())
         },
         _ => Err(Fail::new("this is a line of taps")),

@@ -1,6 +1,5 @@
 -- An accepted text is the text of what was read, in one order of its heads or the other.
-use Rattle.std.proofs.Common.{◌≡◌, ℕ, ◌+◌, ◌≤◌, Bool, true, false, cond, not, ◌&&◌, eqb, leb, ◌⊎◌, List, [], ◌∷◌, ◌++◌, length, ℤ, pos, negsuc, Some, None, Ok, Err, Option, Result, sym, refl, ap, ◌∙◌, subst, inl, inr, append_assoc, arith}
-use Rattle.std.specs.Option.{option_map}
+use Rattle.std.proofs.Common.{◌≡◌, ℕ, ◌+◌, Bool, true, false, cond, not, ◌&&◌, eqb, leb, ◌⊎◌, List, [], ◌∷◌, ◌++◌, length, ℤ, pos, negsuc, Some, None, Ok, Err, Option, Result, sym, refl, ap, ◌∙◌, subst, inl, inr, append_assoc, arith}
 use Rattle.std.specs.List.{flat_map}
 use Rattle.std.proofs.lemmas.List.{append-nil}
 use Rattle.std.proofs.lemmas.Bool.Decides.{nat_tests}
@@ -11,10 +10,9 @@ use Rattle.burst.specs.declared.place.Place.{Place}
 use Rattle.receiver.specs.Standing.{depth_refusal}
 use Rattle.forms.specs.Forms.{Form, taps_form, table_form, code_form, depth_form, place_form, text_of}
 use Rattle.forms.specs.declared.prior.Prior.{Prior}
-use Rattle.text.specs.declared.fault.Layer.TheVariants.{Text}
 use Rattle.kinds.specs.Rules.{Rule, Told, line_refusal}
-use Rattle.reading.specs.Places.{all_fit, priors_of, place_of, place_refusal}
-use Rattle.reading.specs.Steps.{Blame, State, bare, tuned, deep, ready, blamed, unless, received, Saying, a_channel, a_depth, a_place, saying, depth_of, tried, repeated, first, after_channel, after_depth, after_heads, step}
+use Rattle.reading.specs.Places.{all_fit, place_of, place_refusal}
+use Rattle.reading.specs.Steps.{Blame, State, bare, tuned, deep, ready, unless, received, depth_of, tried}
 use Rattle.reading.specs.Texts.{Runs, IsReady, ReadsFrom}
 use Rattle.writing.specs.Written.{of_depth, of_place, places_text}
 use Rattle.transcript.proofs.Priors.{priors_again}

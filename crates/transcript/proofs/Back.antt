@@ -1,10 +1,8 @@
 -- The text of a receiver reads back as what stands in it.
-use Rattle.std.proofs.Common.{◌≡◌, ℕ, ◌+◌, ◌*◌, ◌^◌, ◌<◌, ◌≤◌, Bool, true, false, cond, not, ◌&&◌, eqb, leb, ◌⊎◌, List, [], ◌∷◌, ◌++◌, map, length, get_or, take, ℤ, pos, negsuc, nat_abs, Some, None, Ok, Err, codes, Option, Result, sym, refl, ap, ◌∙◌, subst, inl, inr, append_assoc, arith, length-append, length-take, eq-eqb}
-use lib.Signed.{mag}
+use Rattle.std.proofs.Common.{◌≡◌, ℕ, ◌+◌, ◌*◌, ◌<◌, ◌≤◌, Bool, true, false, cond, not, ◌&&◌, leb, ◌⊎◌, List, [], ◌∷◌, ◌++◌, map, length, take, ℤ, pos, negsuc, nat_abs, None, Ok, codes, sym, refl, ap, ◌∙◌, subst, inl, inr, append_assoc, arith, length-append, eq-eqb}
 use Rattle.std.specs.Fmt.{signed_decimal}
-use Rattle.std.specs.List.{flat_map, AllByRecursion as All}
+use Rattle.std.specs.List.{flat_map, AllByRecursion}
 use Rattle.std.proofs.lemmas.Fmt.{length_signed_le, length-decimal-le}
-use Rattle.std.proofs.ByRecursion.{All-from_get_or, All-get_or}
 use Rattle.std.proofs.lemmas.List.{append-nil, length_push}
 use Rattle.std.proofs.lemmas.Int.{ints}
 use Rattle.std.proofs.lemmas.Bool.Decides.{nat_tests}
@@ -13,22 +11,18 @@ use Rattle.channel.specs.Refusals.{first_of}
 use Rattle.channel.specs.Samples.{between, in_range}
 use Rattle.channel.specs.declared.sample.Sample.{Sample}
 use Rattle.burst.specs.Places.{priors_allowed}
-use Rattle.burst.specs.Sequences.{place_at}
 use Rattle.burst.specs.declared.place.Place.{Place}
 use Rattle.burst.proofs.Sizes.{short_memory}
 use Rattle.recursions.specs.Depths.{depth_allowed}
 use Rattle.receiver.specs.Sound.{Fits}
-use Rattle.receiver.specs.Standing.{depth_refusal}
 use Rattle.numerals.specs.Numbers.{SevenDigits}
-use Rattle.forms.specs.Forms.{Form, taps_form, table_form, code_form, depth_form, place_form, head_of, text_of, Lawful, opening, feed, listed, prior_text, PriorLawful}
-use Rattle.forms.specs.declared.head.Head.TheVariants as heads
+use Rattle.forms.specs.Forms.{Form, taps_form, table_form, code_form, depth_form, place_form, text_of, Lawful, feed, listed, prior_text}
 use Rattle.forms.specs.declared.prior.Prior.{Prior}
-use Rattle.text.specs.Kinds.{kind_of}
 use Rattle.text.specs.declared.fault.Layer.TheVariants.{Text}
-use Rattle.kinds.specs.Rules.{Rule, is_kind, of_kind, line_refusal, Loads}
+use Rattle.kinds.specs.Rules.{Rule, line_refusal, Loads}
 use Rattle.reading.specs.Places.{all_fit, priors_of, place_of, place_refusal}
-use Rattle.reading.specs.Steps.{Blame, State, bare, tuned, ready, blamed, unless, received, a_channel, saying, tried, step}
-use Rattle.reading.specs.Texts.{Runs, ReadsFrom, ReadsText}
+use Rattle.reading.specs.Steps.{bare, tuned, ready, blamed, unless, received, a_channel, saying, step}
+use Rattle.reading.specs.Texts.{Runs, ReadsText}
 use Rattle.writing.specs.Written.{of_prior, of_depth, of_place, places_text}
 use Rattle.transcript.proofs.Priors.{Kept, kept}
 
@@ -103,7 +97,7 @@ place_step k n f q done p s h lt =
     ∙ ap (λ o. unless (received o) n (Ok (ready f q (done ++ (place_of x y ps ∷ []))))) none
     ∙ ap (λ r. Ok (ready f q (done ++ (r ∷ [])))) is
 
-run_places : (k : Rule) (f : Form) (q : ℕ) (s : Sized k f) (n : ℕ) (done todo : List Place) → All (Fits (k.meaning f)) todo → length done + length todo ≤ 128
+run_places : (k : Rule) (f : Form) (q : ℕ) (s : Sized k f) (n : ℕ) (done todo : List Place) → AllByRecursion (Fits (k.meaning f)) todo → length done + length todo ≤ 128
     → Runs k n (ready f q done) (map (of_place k.symbols) todo) (ready f q (done ++ todo))
 run_places k f q s n done [] h few = ap (ready f q) (sym (append-nil done))
 run_places k f q s n done (p ∷ todo) h few = (
@@ -126,7 +120,7 @@ place_lawful k f p s h =
     let g = kept_priors k f p s h in
     (sevenths p.sample.first (first_small (k.meaning f) p.sample h.sample), sevenths p.sample.second (second_small (k.meaning f) p.sample h.sample), g.lawfully, lengths _ k.symbols g.long s.two_or_four)
 
-all_lawful : (k : Rule) (f : Form) (s : Sized k f) (ps : List Place) → All (Fits (k.meaning f)) ps → All Lawful (map (of_place k.symbols) ps)
+all_lawful : (k : Rule) (f : Form) (s : Sized k f) (ps : List Place) → AllByRecursion (Fits (k.meaning f)) ps → AllByRecursion Lawful (map (of_place k.symbols) ps)
 all_lawful k f s [] h = tt
 all_lawful k f s (p ∷ ps) h = (place_lawful k f p s h.0, all_lawful k f s ps h.1)
 
@@ -135,7 +129,7 @@ five : (z : ℤ) → nat_abs z ≤ 2048 → length (signed_decimal z) ≤ 5
 five (pos n) h = length_signed_le 4 (pos n) (omega arith) (omega arith)
 five (negsuc n) h = length_signed_le 4 (negsuc n) (omega arith) (omega arith)
 
-brief_list : (ps : List Prior) → All (λ q. length (prior_text q) ≤ 6) ps → length (flat_map (λ x. 32 ∷ prior_text x) ps) ≤ 7 * length ps
+brief_list : (ps : List Prior) → AllByRecursion (λ q. length (prior_text q) ≤ 6) ps → length (flat_map (λ x. 32 ∷ prior_text x) ps) ≤ 7 * length ps
 brief_list [] h = omega arith
 brief_list (p ∷ ps) h = omega (arith, h.0, brief_list ps h.1, length-append (32 ∷ prior_text p) (flat_map (λ x. 32 ∷ prior_text x) ps))
 
@@ -159,7 +153,7 @@ place_short k f p s h =
     line_length p.sample.first p.sample.second ps (five _ (first_small (k.meaning f) p.sample h.sample)) (five _ (second_small (k.meaning f) p.sample h.sample))
     (omega (arith, brief_list ps g.brief, four_at_most (length ps) k.symbols g.long s.two_or_four))
 
-all_short : (k : Rule) (f : Form) (s : Sized k f) (ps : List Place) → All (Fits (k.meaning f)) ps → length (places_text k.symbols ps) ≤ 70 * length ps
+all_short : (k : Rule) (f : Form) (s : Sized k f) (ps : List Place) → AllByRecursion (Fits (k.meaning f)) ps → length (places_text k.symbols ps) ≤ 70 * length ps
 all_short k f s [] h = omega arith
 all_short k f s (p ∷ ps) h =
     omega (arith, place_short k f p s h.0, all_short k f s ps h.1, length-append (text_of (of_place k.symbols p)) (places_text k.symbols ps))
@@ -185,7 +179,7 @@ pub record Stands (k : Rule) (f : Form) (q : ℕ) (ps : List Place) : Type 0 whe
   pub means : LawfulMeaning (k.meaning f)
   pub depth : depth_allowed (k.meaning f) q ≡ true
   pub few : length ps ≤ 128
-  pub fits : All (Fits (k.meaning f)) ps
+  pub fits : AllByRecursion (Fits (k.meaning f)) ps
   pub short : length (text_of f) ≤ 6800
 
 pub reads_back : (k : Rule) (f : Form) (q : ℕ) (ps : List Place) → Stands k f q ps

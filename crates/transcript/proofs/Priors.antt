@@ -1,6 +1,6 @@
 -- Priors as they are written, and back.
-use Rattle.std.proofs.Common.{◌≡◌, ℕ, ◌<◌, ◌≤◌, min, Bool, true, false, cond, ◌&&◌, eqb, ltb, ◌⊎◌, List, [], ◌∷◌, map, length, get_or, take, ℤ, pos, negsuc, sym, refl, ap, ◌∙◌, subst, inl, inr, arith, eq-eqb}
-use Rattle.std.specs.List.{AllByRecursion as All}
+use Rattle.std.proofs.Common.{◌≡◌, ℕ, ◌<◌, ◌≤◌, min, Bool, true, false, cond, ◌&&◌, eqb, ltb, ◌⊎◌, List, [], ◌∷◌, map, length, get_or, take, pos, negsuc, sym, refl, ap, ◌∙◌, subst, inl, inr, arith, eq-eqb}
+use Rattle.std.specs.List.{AllByRecursion}
 use Rattle.std.proofs.lemmas.Fmt.{length-decimal-le}
 use Rattle.std.proofs.lemmas.Bool.{cases_eq}
 use Rattle.std.proofs.lemmas.Bool.Decides.{nat_tests}
@@ -94,9 +94,9 @@ priors_again m ps (inr e) l h = ap (λ k. map of_prior (take k (priors_of ps).nu
 pub record Kept (m : ℕ) (p : Priors) (ps : List Prior) : Type 0 where
   pub long : length ps ≡ m
   pub fit : all_fit ps ≡ true
-  pub lawfully : All PriorLawful ps
+  pub lawfully : AllByRecursion PriorLawful ps
   pub same : priors_of ps ≡ p
-  pub brief : All (λ q. length (prior_text q) ≤ 6) ps
+  pub brief : AllByRecursion (λ q. length (prior_text q) ≤ 6) ps
 
 both : (a b : Bool) → a ≡ true → b ≡ true → (a && b) ≡ true
 both a b p q = grind (arith, nat_tests)

@@ -2,6 +2,7 @@
 use Rattle.std.specs.Prelude.{ℕ, cond, List, ◌++◌, map, take, pos, ◌==◌}
 use Rattle.std.specs.List.{flat_map}
 use Rattle.burst.specs.declared.place.Place.{Place}
+use Rattle.channel.specs.declared.Channel.{Ghosts}
 use Rattle.receiver.specs.Bursts.{places_of}
 use Rattle.receiver.specs.declared.receiver.Receiver.{Receiver}
 use Rattle.forms.specs.Forms.{Form, depth_form, place_form, text_of}
@@ -24,5 +25,5 @@ abbrev pub places_text : ℕ → List Place → List ℕ
 places_text values places = flat_map (λ p. text_of (of_place values p)) places
 
 -- The text of a receiver: its channel line, its depth line, and a line for each place with a prior for each symbol value.
-abbrev pub receiver_text : {C : Type 0} → (C → Form) → ℕ → Receiver C → List ℕ
+abbrev pub receiver_text : {C : Type 0} {G : Ghosts C} → (C → Form) → ℕ → Receiver C G → List ℕ
 receiver_text form symbols w = text_of (form w.channel) ++ (text_of (of_depth w.burst.depth) ++ places_text symbols (places_of w.burst))

@@ -32,13 +32,13 @@ returns-in-Ok-expect-2 c = record { opens = c.in-Ok-expect-2.ensures; told = sam
 pub returns-in-Ok-expect-3 : goal.returns-in-Ok-expect-3
 returns-in-Ok-expect-3 c = record { opens = c.in-Ok-expect-3.ensures; told = same_form }
 
-pub returns-in-err-rest : goal.returns-in-err-rest
-returns-in-err-rest c =
-    let p = err_from_is_err_and c.from-residual.result c.from-residual.ensures.1 in
+pub returns-in_err-rest : goal.returns-in_err-rest
+returns-in_err-rest c =
+    let p = err_from_is_err_and c.from_residual.result c.from_residual.ensures.1 in
     record {
-      opens = rw p.1 (none_opens _ c.in-default.ensures c.in-default-expect.ensures c.in-default-expect-2.ensures c.in-default-expect-3.ensures c.in-err-rest.ensures);
+      opens = rw p.1 (none_opens _ c.in_default.ensures c.in_default-expect.ensures c.in_default-expect-2.ensures c.in_default-expect-3.ensures c.in_err-rest.ensures);
       told = same_form;
     }
 
 pub returns : goal.returns
-returns c = record { opens = c.in-ok-rest.ensures; told = same_form }
+returns c = record { opens = c.in_ok-rest.ensures; told = same_form }

@@ -7,20 +7,20 @@ use Rattle.forms.proofs.Bodies.{only_depth}
 use Rattle.forms.specs.Telling.{kept, past_number}
 use Rattle.forms.proofs.read.read_depth.Goals as goal
 
-pub returns-in-err-end : goal.returns-in-err-end
-returns-in-err-end c =
-    let p = err_from_is_err_and c.from-residual-in-err-end.result c.from-residual-in-err-end.ensures.1 in
+pub returns-in_err-end : goal.returns-in_err-end
+returns-in_err-end c =
+    let p = err_from_is_err_and c.from_residual-in_err-end.result c.from_residual-in_err-end.ensures.1 in
     rw p.1 (only_depth _ (λ d lawful e.
-    c.in-err-end.ensures (ap length (past_number c.in-ok-depth.depth d (codes ")" ++ feed) _ _ [] (inr refl) (inr refl) c.in-ok-depth.ensures lawful e).1)))
+    c.in_err-end.ensures (ap length (past_number c.in_ok-depth.depth d (codes ")" ++ feed) _ _ [] (inr refl) (inr refl) c.in_ok-depth.ensures lawful e).1)))
 
 pub returns : goal.returns
 returns c =
-    let d = c.in-ok-depth.depth in
-    let first = c.in-ok-depth.ensures in
+    let d = c.in_ok-depth.depth in
+    let first = c.in_ok-depth.ensures in
     record {
       form = depth_form d;
       head_is = refl;
-      text_is = first.0 ∙ ap (λ l. signed_decimal d ++ (codes ")" ++ (feed ++ l))) (nil_from_length _ c.in-ok-end.ensures);
+      text_is = first.0 ∙ ap (λ l. signed_decimal d ++ (codes ")" ++ (feed ++ l))) (nil_from_length _ c.in_ok-end.ensures);
       lawful = first.1;
       says = ap depth_form (kept d first.1);
     }

@@ -1,52 +1,48 @@
-use Rattle.std.proofs.Common.{◌≡◌, ℕ, ◌⊎◌, List, [], ◌++◌, length, codes, sym, refl, ap, ◌∙◌, subst, inl, inr, rules}
+use Rattle.std.proofs.Common.{◌≡◌, ℕ, ◌⊎◌, ◌++◌, length, codes, sym, refl, ap, ◌∙◌, subst, inl, inr, arith, rules}
 use Rattle.std.specs.Fmt.{signed_decimal}
 use Rattle.std.proofs.lemmas.Result.{err_from_is_err_and}
 use Rattle.forms.specs.Forms.{place_form, prior_text, PriorLawful, listed}
 use Rattle.forms.proofs.Bodies.{only_place, one_list, held_whole, some_priors, other_count, room_left}
 use Rattle.forms.specs.Telling.{kept, past_number, prior_told}
 use Rattle.forms.proofs.read.read_place.Goals as goal
-use Rattle.forms.proofs.read.read_place.Goals.{else-count-ne2-via-then-count-ne2+else-count-ne4, else-count-ne2-via-else-count-ne2}
 
-pub returns-in-err-second : goal.returns-in-err-second
-returns-in-err-second c =
-    let p = err_from_is_err_and c.from-residual-in-err-second.result c.from-residual-in-err-second.ensures.1 in
+pub returns-in_err-second : goal.returns-in_err-second
+returns-in_err-second c =
+    let p = err_from_is_err_and c.from_residual-in_err-second.result c.from_residual-in_err-second.ensures.1 in
     rw p.1 (only_place _ (λ x y ps l e.
-    let a = past_number c.in-ok-first.first x (codes " ") _ _ _ (inl refl) (inl refl) c.in-ok-first.ensures l.0 e in
-    c.in-err-second.ensures y (listed prior_text ps) l.1 a.1))
+    let a = past_number c.in_ok-first.first x (codes " ") _ _ _ (inl refl) (inl refl) c.in_ok-first.ensures l.0 e in
+    c.in_err-second.ensures y (listed prior_text ps) l.1 a.1))
 
-pub returns-in-err-count : goal.returns-in-err-count
-returns-in-err-count c =
-    let p = err_from_is_err_and c.from-residual-in-err-count.result c.from-residual-in-err-count.ensures.1 in
+pub returns-in_err-count : goal.returns-in_err-count
+returns-in_err-count c =
+    let p = err_from_is_err_and c.from_residual-in_err-count.result c.from_residual-in_err-count.ensures.1 in
     rw p.1 (only_place _ (λ x y ps l e.
-    let a = past_number c.in-ok-first.first x (codes " ") _ _ _ (inl refl) (inl refl) c.in-ok-first.ensures l.0 e in
-    let b = past_number c.in-ok-second.second y (codes ") (prior") _ _ _ (inr refl) (inr refl) c.in-ok-second.ensures l.1 a.1 in
-    c.in-err-count.ensures ps l.2 (some_priors _ l.3) b.1))
+    let a = past_number c.in_ok-first.first x (codes " ") _ _ _ (inl refl) (inl refl) c.in_ok-first.ensures l.0 e in
+    let b = past_number c.in_ok-second.second y (codes ") (prior") _ _ _ (inr refl) (inr refl) c.in_ok-second.ensures l.1 a.1 in
+    c.in_err-count.ensures ps l.2 (some_priors _ l.3) b.1))
 
 pub returns-then-count-ne4 : goal.returns-then-count-ne4
 returns-then-count-ne4 c =
-    let k = c.in-ok-count.ensures in
-    let five : length c.read-list.new.into ≡ 5 = search rules in
+    let k = c.in_ok-count.ensures in
+    let five : length c.read_list.new.into ≡ 5 = search rules in
     only_place _ (λ x y ps l e.
-    let a = past_number c.in-ok-first.first x (codes " ") _ _ _ (inl refl) (inl refl) c.in-ok-first.ensures l.0 e in
-    let b = past_number c.in-ok-second.second y (codes ") (prior") _ _ _ (inr refl) (inr refl) c.in-ok-second.ensures l.1 a.1 in
+    let a = past_number c.in_ok-first.first x (codes " ") _ _ _ (inl refl) (inl refl) c.in_ok-first.ensures l.0 e in
+    let b = past_number c.in_ok-second.second y (codes ") (prior") _ _ _ (inr refl) (inr refl) c.in_ok-second.ensures l.1 a.1 in
     let same = one_list prior_text PriorLawful prior_told _ k.pieces ps k.all_lawful l.2 k.text_is b.1 in
-    other_count c.read-list.new.into k.pieces ps _ five k.counted same c.if-count-ne2.true c.if-count-ne4.true l.3)
+    other_count c.read_list.new.into k.pieces ps _ five k.counted same (search rules) c.if-count-ne4.true l.3)
 
 pub returns : goal.returns
 returns c =
-    let x = c.in-ok-first.first in
-    let y = c.in-ok-second.second in
-    let a = c.in-ok-first.ensures in
-    let b = c.in-ok-second.ensures in
-    let k = c.in-ok-count.ensures in
-    let count = c.in-ok-count.count in
-    let five : length c.read-list.new.into ≡ 5 = search rules in
+    let x = c.in_ok-first.first in
+    let y = c.in_ok-second.second in
+    let a = c.in_ok-first.ensures in
+    let b = c.in_ok-second.ensures in
+    let k = c.in_ok-count.ensures in
+    let count = c.in_ok-count.count in
+    let five : length c.read_list.new.into ≡ 5 = search rules in
     let two_or_four : (count ≡ 2) ⊎ (count ≡ 4) =
-    elim c.else-count-ne2.branch [
-      | else-count-ne2-via-then-count-ne2+else-count-ne4 w ↦ inr w.if-count-ne4.false
-      | else-count-ne2-via-else-count-ne2 w ↦ inl w.if-count-ne2.false
-    ] in
-    let whole = held_whole c.read-list.new.into k.pieces count k.counted (room_left count _ five two_or_four) k.front in
+    grind arith in
+    let whole = held_whole c.read_list.new.into k.pieces count k.counted (room_left count _ five two_or_four) k.front in
     record {
       form = place_form x y k.pieces;
       head_is = refl;

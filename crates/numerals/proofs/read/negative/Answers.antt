@@ -1,7 +1,6 @@
-use Rattle.std.proofs.Common.{◌≡◌, pos, ◌-ℤ◌, neg_ℤ, decimal, ap, ◌∙◌, arith, w32, to_z, of_z, rules}
+use Rattle.std.proofs.Common.{decimal, ap, ◌∙◌}
 use Rattle.std.proofs.lemmas.Result.{err_from_is_err_and}
-use Rattle.std.proofs.lemmas.Int.{ints}
-use Rattle.numerals.proofs.Reading.{minus_number, minus_none, no_minus_zero, after_minus}
+use Rattle.numerals.proofs.Reading.{minus_none, no_minus_zero, after_minus}
 use Rattle.numerals.proofs.read.negative.Goals as goal
 
 pub returns-in_err-n : goal.returns-in_err-n
@@ -12,10 +11,3 @@ returns-in_err-n c =
 pub returns-then-n-eq0 : goal.returns-then-n-eq0
 returns-then-n-eq0 c =
     minus_none _ _ (after_minus _ _ c.requires.some c.requires.minus c.requires.rest) (no_minus_zero _ (c.in_ok-n.ensures.0 ∙ ap decimal c.if-n-eq0.true))
-
-pub returns : goal.returns
-returns c =
-    let n = c.in_ok-n.n in
-    let small = c.in_ok-n.ensures.1 in
-    let is : to_z w32 (of_z w32 (pos 0 -ℤ to_z w32 n)) ≡ neg_ℤ (pos n) = omega (arith, ints) in
-    simp is (minus_number _ _ n (after_minus _ _ c.requires.some c.requires.minus c.requires.rest) c.in_ok-n.ensures.0 (search rules) small)

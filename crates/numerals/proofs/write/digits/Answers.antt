@@ -1,9 +1,6 @@
-use Rattle.std.proofs.Common.{sym, refl, append-nil, arith}
+use Rattle.std.proofs.Common.{arith}
 use Rattle.numerals.proofs.Writing.{room, one_more, the_last}
 use Rattle.numerals.proofs.write.digits.Goals as goal
-
-pub loop-n-init : goal.loop-n-init
-loop-n-init c = record { text = sym (append-nil _); long = refl; within = omega arith; below = omega arith }
 
 pub overflow_sub-start : goal.overflow_sub-start
 overflow_sub-start c = omega (arith, room _ _ _ _ (omega arith) c.loop-n.invariant)

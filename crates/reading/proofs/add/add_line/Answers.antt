@@ -3,8 +3,8 @@ use Rattle.reading.proofs.add.add_line.Goals as goal
 
 pub returns-in-Place : goal.returns-in-Place
 returns-in-Place g c =
-    let i = c.in-ok-line.ensures.reads in
+    let i = c.in_ok-line.ensures.reads in
     record {
-      does = λ n. place_done g.C.Spelled.rule g.C.Spelled.form n _ _ i c.in-Place.place c.args.receiver.now c.add-place.new.receiver c.add-place.result c.in-Place.is (c.add-place.ensures.does n);
-      begun = c.add-place.ensures.begun;
+      does = λ n. place_done g.C.Spelled.rule g.C.Spelled.form n _ _ i c.in-Place.place c.args.receiver.now c.add_place.new.receiver c.add_place.result c.in-Place.is (c.add_place.ensures.does n);
+      begun = c.add_place.ensures.begun;
     }

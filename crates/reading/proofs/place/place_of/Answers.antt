@@ -3,4 +3,4 @@ use Rattle.reading.specs.Places.{Hands}
 use Rattle.reading.proofs.place.place_of.Goals as goal
 
 pub returns : goal.returns
-returns c = record { sample = refl; priors = subst (λ l. Hands l c.handed-priors.result) c.priors.ensures c.handed-priors.ensures }
+returns c = record { sample = refl; priors = subst (λ l. Hands l c.handed_priors.result) c.priors.ensures c.handed_priors.ensures }

@@ -1,4 +1,4 @@
-use Rattle.std.proofs.Common.{◌≡◌, ◌<◌, [], length, ap, arith, rules}
+use Rattle.std.proofs.Common.{◌≡◌, ◌<◌, length, ap, arith, rules}
 use Rattle.reading.specs.Received.{state_of}
 use Rattle.reading.proofs.Running.{so_none, so_more, some_line, shorter, blame_is, so_blamed, so_all}
 use Rattle.reading.proofs.places.read_places.Goals as goal
@@ -6,10 +6,10 @@ use Rattle.reading.proofs.places.read_places.Goals as goal
 pub loop-rest-init : goal.loop-rest-init
 loop-rest-init g c = (so_none _ 3 _ _, λ b. b)
 
-pub add-line-requires : goal.add-line-requires
-add-line-requires g c =
+pub add_line-requires : goal.add_line-requires
+add_line-requires g c =
     let some : 0 < length c.loop-rest.rest.now = search rules in
-    some_line _ _ _ c.cut-line.ensures some
+    some_line _ _ _ c.cut_line.ensures some
 
 pub returns-in-Err : goal.returns-in-Err
 returns-in-Err g c =
@@ -19,24 +19,24 @@ returns-in-Err g c =
     record {
       does =
           so_blamed k 3 _ _ c.loop-rest.number (state_of g.C.Spelled.form c.loop-rest.receiver) rest _ c.loop-rest.invariant.0
-          (blame_is k c.loop-rest.number (state_of g.C.Spelled.form c.loop-rest.receiver) rest _ _ _ c.cut-line.ensures (λ e _. omega (arith, ap length e)) (c.in-Err.ensures.does c.loop-rest.number));
+          (blame_is k c.loop-rest.number (state_of g.C.Spelled.form c.loop-rest.receiver) rest _ _ _ c.cut_line.ensures (λ e _. omega (arith, ap length e)) (c.in-Err.ensures.does c.loop-rest.number));
       begun = tt;
     }
 
-pub overflow-add-number : goal.overflow-add-number
-overflow-add-number g c =
+pub overflow_add-number : goal.overflow_add-number
+overflow_add-number g c =
     let some : 0 < length c.loop-rest.rest.now = search rules in
     omega (arith, c.loop-rest.invariant.0.short)
 
 pub loop-rest-smaller : goal.loop-rest-smaller
 loop-rest-smaller g c =
     let some : 0 < length c.loop-rest.rest.now = search rules in
-    shorter _ _ _ c.cut-line.ensures some
+    shorter _ _ _ c.cut_line.ensures some
 
 pub loop-rest-preserved : goal.loop-rest-preserved
 loop-rest-preserved g c =
     let some : 0 < length c.loop-rest.rest.now = search rules in (
-      so_more g.C.Spelled.rule 3 _ _ c.loop-rest.number _ _ _ _ _ c.loop-rest.invariant.0 c.cut-line.ensures some (c.in-Ok.ensures.does c.loop-rest.number),
+      so_more g.C.Spelled.rule 3 _ _ c.loop-rest.number _ _ _ _ _ c.loop-rest.invariant.0 c.cut_line.ensures some (c.in-Ok.ensures.does c.loop-rest.number),
       λ b. c.in-Ok.ensures.begun (c.loop-rest.invariant.1 b),
     )
 

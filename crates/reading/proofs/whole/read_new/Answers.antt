@@ -4,29 +4,29 @@ use Rattle.reading.proofs.Running.{short_text, bad_heads, good_heads}
 use Rattle.reading.proofs.Single.{one_answer}
 use Rattle.reading.proofs.whole.read_new.Goals as goal
 
-pub returns-then-text-gt-MOST-BYTES : goal.returns-then-text-gt-MOST-BYTES
-returns-then-text-gt-MOST-BYTES g c = record { reads = record { long = λ _. refl; short = λ h. absurd (omega arith) }; begun = tt; one = one_answer }
+pub returns-then-text-gt-MOST_BYTES : goal.returns-then-text-gt-MOST_BYTES
+returns-then-text-gt-MOST_BYTES g c = record { reads = record { long = λ _. refl; short = λ h. absurd (omega arith) }; begun = tt; one = one_answer }
 
-pub returns-in-err-receiver : goal.returns-in-err-receiver
-returns-in-err-receiver g c =
-    let p = err_from_is_err_and c.from-residual.result c.from-residual.ensures.1 in
+pub returns-in_err-receiver : goal.returns-in_err-receiver
+returns-in_err-receiver g c =
+    let p = err_from_is_err_and c.from_residual.result c.from_residual.ensures.1 in
     let k = g.C.Spelled.rule in
     let form = g.C.Spelled.form in
     rw (p.1, p.2) (record {
-      reads = short_text k _ _ (omega arith) (bad_heads k form _ _ _ _ _ c.in-err-receiver.field-0.0 c.cut-line.ensures c.cut-line-2.ensures c.in-err-receiver.ensures.does);
+      reads = short_text k _ _ (omega arith) (bad_heads g.C.Channel k form _ _ _ _ _ c.in_err-receiver.field-0.0 c.cut_line.ensures c.cut_line-2.ensures c.in_err-receiver.ensures.does);
       begun = tt;
       one = one_answer;
     })
 
-pub returns-in-err-read-places : goal.returns-in-err-read-places
-returns-in-err-read-places g c =
-    let p = err_from_is_err_and c.from-residual-in-err-read-places.result c.from-residual-in-err-read-places.ensures.1 in
+pub returns-in_err-read_places : goal.returns-in_err-read_places
+returns-in_err-read_places g c =
+    let p = err_from_is_err_and c.from_residual-in_err-read_places.result c.from_residual-in_err-read_places.ensures.1 in
     let k = g.C.Spelled.rule in
     let form = g.C.Spelled.form in
     rw (p.1, p.2) (record {
       reads =
           short_text k _ _ (omega arith)
-          (good_heads k form _ _ _ _ _ c.in-ok-receiver.receiver _ c.cut-line.ensures c.cut-line-2.ensures c.in-ok-receiver.ensures.does c.in-err-read-places.ensures.does);
+          (good_heads k form _ _ _ _ _ c.in_ok-receiver.receiver _ c.cut_line.ensures c.cut_line-2.ensures c.in_ok-receiver.ensures.does c.in_err-read_places.ensures.does);
       begun = tt;
       one = one_answer;
     })
@@ -38,7 +38,7 @@ returns g c =
     record {
       reads =
           short_text k _ _ (omega arith)
-          (good_heads k form _ _ _ _ _ c.in-ok-receiver.receiver _ c.cut-line.ensures c.cut-line-2.ensures c.in-ok-receiver.ensures.does c.in-ok-read-places.ensures.does);
-      begun = c.in-ok-read-places.ensures.begun c.in-ok-receiver.ensures.begun;
+          (good_heads k form _ _ _ _ _ c.in_ok-receiver.receiver _ c.cut_line.ensures c.cut_line-2.ensures c.in_ok-receiver.ensures.does c.in_ok-read_places.ensures.does);
+      begun = c.in_ok-read_places.ensures.begun c.in_ok-receiver.ensures.begun;
       one = one_answer;
     }

@@ -1,8 +1,7 @@
-use Rattle.std.proofs.Common.{◌≡◌, ℕ, ◌+◌, ◌*◌, ◌/◌, ◌%◌, ◌<◌, sym, ap, ◌∙◌, ap₂, add-one, arith}
-use Rattle.std.proofs.lemmas.Nat.{mod_below}
+use Rattle.std.proofs.Common.{◌≡◌, ℕ, ◌+◌, ◌*◌, ◌/◌, ◌%◌, sym, ap, ◌∙◌, ap₂, add-one, arith}
 use Rattle.trellis.specs.Sequences.{join_below}
 use Rattle.trellis.specs.Elements.{forward_element_of}
-use Rattle.trellis.proofs.Elements.{forward_way, forward_step, state_lt}
+use Rattle.trellis.proofs.Elements.{forward_way, forward_step}
 use Rattle.trellis.proofs.Ways.{below_start, joined, forward_way_lem}
 use Rattle.burst.specs.Sequences.{full_trellis}
 use Rattle.sweep.proofs.Full.{full_sound, full_shifts, full_weight}
@@ -11,22 +10,10 @@ use Rattle.sweep.proofs.fronts.gather.Goals as goal
 pub loop-oldest-init : goal.loop-oldest-init
 loop-oldest-init g c = c.none-ways.ensures ∙ sym (below_start g.J.Joining.operations _)
 
-pub element-before-requires : goal.element-before-requires
-element-before-requires g c =
-    let from = state_lt c.args.sizes.states c.args.sizes.symbols c.args.state c.loop-oldest.oldest c.requires.state c.loop-oldest-test.true in
-    record { few = omega arith; small = c.requires.sized.few_states; state = from; room = c.requires.room }
-
-pub weight-step-requires : goal.weight-step-requires
-weight-step-requires g c =
-    let from = state_lt c.args.sizes.states c.args.sizes.symbols c.args.state c.loop-oldest.oldest c.requires.state c.loop-oldest-test.true in
-    let pair : ℕ = c.args.state + c.args.sizes.states * c.loop-oldest.oldest in
-    let symbol : pair % c.args.sizes.symbols < c.args.sizes.symbols = mod_below pair c.args.sizes.symbols (omega arith) in
-    record { sized = c.requires.sized; history = omega (arith, from, c.requires.sized.few_states); symbol = omega (arith, symbol, c.requires.sized.four_symbols) }
-
 pub loop-oldest-preserved : goal.loop-oldest-preserved
 loop-oldest-preserved g c =
     let o = g.J.Joining.operations in
-    let worth = g.J.Joining.worthOf in
+    let worth = g.J.Joining.worth_of in
     let m = g.C.Channel.meaning c.args.channel.now in
     let t = full_trellis o worth m c.args.places.now in
     let n = c.args.sizes.states in
@@ -36,15 +23,15 @@ loop-oldest-preserved g c =
     c.requires.place c.index-places-column.is c.weight-step.ensures in
     let way = forward_way_lem t c.args.forward.now n symbols c.args.column c.args.state c.loop-oldest.oldest c.element-before.result c.weight-step.result
     c.requires.state c.loop-oldest-test.true c.requires.before c.element-before.ensures step in
-    c.join-way-ways.ensures ∙ joined o c.loop-oldest.oldest (forward_way t n symbols c.args.column c.args.state) _ _ c.loop-oldest.invariant way
+    c.join_way-ways.ensures ∙ joined o c.loop-oldest.oldest (forward_way t n symbols c.args.column c.args.state) _ _ c.loop-oldest.invariant way
 
 pub returns : goal.returns
 returns g c =
     let o = g.J.Joining.operations in
     let m = g.C.Channel.meaning c.args.channel.now in
-    let t = full_trellis o g.J.Joining.worthOf m c.args.places.now in
-    let sound = full_sound o g.J.Joining.worthOf m c.args.places.now g.met.J.Joining.laws (g.met.C.Channel.lawful c.args.channel.now) in
-    let shifts = full_shifts o g.J.Joining.worthOf m c.args.places.now in
+    let t = full_trellis o g.J.Joining.worth_of m c.args.places.now in
+    let sound = full_sound o g.J.Joining.worth_of m c.args.places.now g.met.J.Joining.laws (g.met.C.Channel.lawful c.args.channel.now) in
+    let shifts = full_shifts o g.J.Joining.worth_of m c.args.places.now in
     let all : c.loop-oldest.oldest ≡ c.args.sizes.symbols = omega arith in
     c.loop-oldest.invariant
     ∙ ap (λ (j : ℕ). join_below o j (forward_way t c.args.sizes.states c.args.sizes.symbols c.args.column c.args.state)) all

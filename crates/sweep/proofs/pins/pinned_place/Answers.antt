@@ -6,4 +6,4 @@ use Rattle.sweep.proofs.pins.pinned_place.Goals as goal
 
 pub returns : goal.returns
 unfolding place_pinned
-returns c = let made : Priors → Place = λ p. record { sample = c.args.place.sample; priors = p } in ap made c.pinned-priors.ensures
+returns c = let made : Priors → Place = λ p. record { sample = c.args.place.sample; priors = p } in ap made c.pinned_priors.ensures

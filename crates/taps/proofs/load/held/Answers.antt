@@ -1,4 +1,4 @@
-use Rattle.std.proofs.Common.{◌≡◌, length, sym, refl, ap, ◌∙◌, arith, rules}
+use Rattle.std.proofs.Common.{length, ap, ◌∙◌, rules}
 use Rattle.std.proofs.lemmas.List.{take_at, places}
 use Rattle.taps.proofs.load.held.Goals as goal
 

@@ -1,8 +1,8 @@
-use Rattle.std.proofs.Common.{◌≡◌, ℕ, ◌+◌, ◌*◌, ◌<◌, ◌≤◌, List, length, get_or, drop, ℤ, pos, ◌+ℤ◌, nat_abs, sym, refl, ap, ◌∙◌, arith, w16, w32, SFits, to_z, of_z, rules}
+use Rattle.std.proofs.Common.{◌≡◌, ℕ, ◌+◌, ◌*◌, ◌<◌, ◌≤◌, List, length, get_or, drop, ℤ, pos, ◌+ℤ◌, nat_abs, sym, ap, ◌∙◌, arith, w16, w32, SFits, to_z, of_z, rules}
 use Rattle.std.proofs.lemmas.List.{at_drop_more, at_drop_all}
 use Rattle.std.proofs.lemmas.Int.{to_z-of_z, ints}
 use Rattle.channel.specs.Windows.{symbol_at}
-use Rattle.taps.specs.Rule.{symbol_times, echo, expected}
+use Rattle.taps.specs.Rule.{symbol_times, echo}
 use Rattle.taps.proofs.Echo.{expected_is_the_echo}
 use Rattle.taps.proofs.price.sum_of_taps.Goals as goal
 

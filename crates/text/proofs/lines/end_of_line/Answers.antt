@@ -1,7 +1,7 @@
-use Rattle.std.proofs.Common.{◌≡◌, length, take, inr, arith}
+use Rattle.std.proofs.Common.{length, inr, arith}
 use Rattle.std.proofs.lemmas.List.{take_all, drop_all}
 use Rattle.std.proofs.ByRecursion.{All-more}
-use Rattle.std.specs.List.{AllByRecursion as All}
+use Rattle.std.specs.List.{AllByRecursion}
 use Rattle.text.specs.Cutting.{NoFeed}
 use Rattle.text.proofs.Feeds.{feed_at}
 use Rattle.text.proofs.lines.end_of_line.Goals as goal
@@ -19,5 +19,5 @@ loop-i-preserved c = All-more NoFeed c.args.text.now c.loop-i.i 0 c.loop-i-test.
 pub returns : goal.returns
 returns c =
     let text = c.args.text.now in
-    let all : All NoFeed text = simp (take_all c.loop-i.i text c.loop-i-test.false) at c.loop-i.invariant in
+    let all : AllByRecursion NoFeed text = simp (take_all c.loop-i.i text c.loop-i-test.false) at c.loop-i.invariant in
     record { within = omega arith; line = inr (rw (take_all (length text) text (omega arith)) all, drop_all (length text) text (omega arith)) }

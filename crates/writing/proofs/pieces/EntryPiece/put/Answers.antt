@@ -1,4 +1,4 @@
-use Rattle.std.proofs.Common.{◌≡◌, ◌^◌, ◌<◌, sym, ap, arith, rules}
+use Rattle.std.proofs.Common.{◌^◌, ◌<◌, sym, ap, arith, rules}
 use lib.Signed.{mag}
 use Rattle.std.specs.Fmt.{signed_decimal}
 use Rattle.forms.specs.Forms.{entry_text}
@@ -11,8 +11,8 @@ returns-in-Expected c =
     let y = c.in-Expected.second in
     let small-x : mag x < 2 ^ 31 = search rules in
     let small-y : mag y < 2 ^ 31 = search rules in
-    let first = adds_as _ _ _ _ (ap signed_decimal (narrow_short x small-x)) c.put-number.ensures.text in
-    let second = adds_as _ _ _ _ (ap signed_decimal (narrow_short y small-y)) c.put-number-in-Expected.ensures.text in
+    let first = adds_as _ _ _ _ (ap signed_decimal (narrow_short x small-x)) c.put_number.ensures.text in
+    let second = adds_as _ _ _ _ (ap signed_decimal (narrow_short y small-y)) c.put_number-in-Expected.ensures.text in
     record {
       text = adds_as _ _ _ _ (ap entry_text (sym c.in-Expected.is)) (adds_pair _ _ _ _ _ _ x y c.put-in-Expected.ensures first c.put-in-Expected-2.ensures second c.put-in-Expected-3.ensures);
       short = omega arith;
