@@ -1,7 +1,7 @@
 -- Lists that hold columns one after another: element s of column k stands at k · width + s.
 use Rattle.std.specs.Prelude.{◌≡◌, ℕ, ◌+◌, ◌*◌, ◌/◌, ◌%◌, ◌<◌, ◌≤◌, List, length, slice_index_or}
 
--- Column k of a list is that of `element`. (What `get_or` reads past the end of a list is `blank`.)
+-- Column k of a list is that of `element`. (What `slice_index_or` reads past the end of a list is `blank`.)
 abbrev pub Column : {J : Type 0} → J → List J → ℕ → ℕ → (ℕ → J) → Type 0
 Column blank list width k element = (s : ℕ) → s < width → slice_index_or list (k * width + s) blank ≡ element s
 
