@@ -9,7 +9,6 @@ use Rattle.burst.specs.Places.{priors_allowed}
 use Rattle.burst.specs.declared.place.Place.{Place}
 use Rattle.receiver.specs.Bursts.{places_of}
 use Rattle.receiver.specs.Changes.{Added}
-use Rattle.receiver.specs.Sound.{Sound}
 use Rattle.receiver.specs.Standing.{add_refusal}
 use Rattle.receiver.specs.declared.receiver.Receiver.{Receiver}
 use Rattle.forms.specs.Forms.{Form}
@@ -120,15 +119,13 @@ refuses_place k form n m before line p number h e =
     (refusal_is k form m before line p (Some number) h e)
 
 pub still_begun :
-    {C : Type 0} {G : Ghosts C} (m : Meaning) (before after : Receiver C G) (p : Place) → Added before.burst after.burst p → (Sound m before.burst → Sound m after.burst)
-    → Begun m before → Begun m after
-still_begun m before after p a sound b =
+    {C : Type 0} {G : Ghosts C} (before after : Receiver C G) (p : Place) → Added before.burst after.burst p → Begun before → Begun after
+still_begun before after p a b =
     record {
       forward = ap (λ s. s.forward) a.stands ∙ b.forward;
       backward =
           ap (λ s. s.backward) a.stands
           ∙ sym (sym (counted after) ∙ ap (λ s. length s.places) a.stands ∙ length_push (places_of before.burst) p);
-      sound = sound b.sound;
     }
 
 -- a place line where both heads stand

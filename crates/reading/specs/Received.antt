@@ -5,7 +5,6 @@ use Rattle.channel.specs.declared.Channel.{Ghosts}
 use Rattle.burst.specs.Refusals.{number_of}
 use Rattle.burst.specs.declared.refusal.Refusal.{Refusal}
 use Rattle.receiver.specs.Bursts.{places_of}
-use Rattle.receiver.specs.Sound.{Sound}
 use Rattle.receiver.specs.Standing.{depth_refusal}
 use Rattle.receiver.specs.declared.receiver.Receiver.{Receiver}
 use Rattle.forms.specs.Forms.{Form}
@@ -22,11 +21,10 @@ use Rattle.reading.specs.Texts.{IsReady, ReadsFrom, ReadsText}
 abbrev pub state_of : {C : Type 0} {G : Ghosts C} → (C → Form) → Receiver C G → State
 state_of form w = ready (form w.channel) w.burst.depth (places_of w.burst)
 
--- no forward column is worked and every backward column is stale but the last; what is marked fresh is right
-pub record Begun {C : Type 0} {G : Ghosts C} (m : Meaning) (w : Receiver C G) : Type 0 where
+-- no forward column is worked and every backward column is stale but the last
+pub record Begun {C : Type 0} {G : Ghosts C} (w : Receiver C G) : Type 0 where
   pub forward : w.burst.marks.forward ≡ 0
   pub backward : w.burst.marks.backward ≡ w.burst.count
-  pub sound : Sound m w.burst
 
 -- a receiver of a channel at a depth, without places, or the refusal of the depth
 pub record Received {C : Type 0} {G : Ghosts C} (m : Meaning) (channel : C) (depth : ℕ) (w : Receiver C G) : Type 0 where
@@ -34,7 +32,7 @@ pub record Received {C : Type 0} {G : Ghosts C} (m : Meaning) (channel : C) (dep
   pub allowed : depth_refusal m depth ≡ None
   pub depth_is : w.burst.depth ≡ depth
   pub none : places_of w.burst ≡ []
-  pub begun : Begun m w
+  pub begun : Begun w
 
 abbrev pub Receives : {C : Type 0} {G : Ghosts C} → Meaning → C → ℕ → Result (Receiver C G) Refusal → Type 0
 Receives m channel depth (Ok w) = Received m channel depth w

@@ -16,7 +16,7 @@ use text::{Cause, Malformed};
 fn add_place<C: Spelled>(receiver: &mut Receiver<C>, place: &PlaceLine) -> Result<(), Cause>
     requires { length (priors_in place.now) ≤ 4 }
     ensures does { (n : ℕ) → AddsPlace C.Spelled.rule C.Spelled.form n place.now receiver.old receiver.new result }
-    ensures begun { OnOk result (Begun (C.meaning receiver.old.channel) receiver.old → Begun (C.meaning receiver.new.channel) receiver.new) }
+    ensures begun { OnOk result (Begun receiver.old → Begun receiver.new) }
 {
     if place.priors().len() != C::alphabet() {
         return Err(Cause::Text(Malformed::NotAForm));
@@ -29,7 +29,7 @@ fn add_place<C: Spelled>(receiver: &mut Receiver<C>, place: &PlaceLine) -> Resul
 pub(crate) fn add_line<C: Spelled>(receiver: &mut Receiver<C>, line: &[u8]) -> Result<(), Cause>
     requires { 0 < length line.now }
     ensures does { (n : ℕ) → At C.Spelled.rule n (state_of C.Spelled.form receiver.old) line.now (λ _. state_of C.Spelled.form receiver.new) result }
-    ensures begun { OnOk result (Begun (C.meaning receiver.old.channel) receiver.old → Begun (C.meaning receiver.new.channel) receiver.new) }
+    ensures begun { OnOk result (Begun receiver.old → Begun receiver.new) }
 {
     let line = read_line(line)?;
     match line {

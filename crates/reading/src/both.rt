@@ -15,7 +15,7 @@ pub(crate) fn read_heads<C: Spelled + Drop>(
     second: &[u8],
 ) -> Result<Receiver<C>, Fault>
     ensures does { ReadsHeads C.Spelled.rule C.Spelled.form first.now second.now result }
-    ensures begun { IfOk result (λ w. Begun (C.meaning w.channel) w) }
+    ensures begun { IfOk result (λ w. Begun w) }
 {
     let head = match read_first::<C>(first) {
         Ok(head) => head,

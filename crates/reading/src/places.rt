@@ -10,7 +10,7 @@ use text::{Fault, cut_line};
 /// The lines from the third on, where both heads stand: places, each added in turn.
 pub(crate) fn read_places<C: Spelled>(receiver: &mut Receiver<C>, text: &[u8]) -> Result<(), Fault>
     ensures does { ReadsPlaces C.Spelled.rule C.Spelled.form text.now receiver.old receiver.new result }
-    ensures begun { OnOk result (Begun (C.meaning receiver.old.channel) receiver.old → Begun (C.meaning receiver.new.channel) receiver.new) }
+    ensures begun { OnOk result (Begun receiver.old → Begun receiver.new) }
 {
     let mut number: usize = 3;
     let mut rest = text;

@@ -30,7 +30,7 @@ fn receive<C: Spelled + Drop>(channel: C, depth: i32) -> Result<Receiver<C>, Ref
 /// The depth line after a channel line, and the receiver of both.
 pub(crate) fn read_depth<C: Spelled + Drop>(channel: C, line: &[u8]) -> Result<Receiver<C>, Cause>
     ensures does { At C.Spelled.rule 2 (tuned (C.Spelled.form channel)) line.now (state_of C.Spelled.form) result }
-    ensures begun { IfOk result (λ w. Begun (C.meaning w.channel) w) }
+    ensures begun { IfOk result (λ w. Begun w) }
 {
     if line.is_empty() {
         return Err(Cause::Text(Malformed::Heads));
@@ -67,7 +67,7 @@ pub(crate) fn read_channel_line<C: Spelled + Drop>(
     line: &[u8],
 ) -> Result<Receiver<C>, Fault>
     ensures does { AtLine C.Spelled.rule 2 (deep depth) line.now (state_of C.Spelled.form) result }
-    ensures begun { IfOk result (λ w. Begun (C.meaning w.channel) w) }
+    ensures begun { IfOk result (λ w. Begun w) }
 {
     match read_channel(line) {
         Ok(channel) => match receive::<C>(channel, depth) {

@@ -1,6 +1,6 @@
 //! A receiver over any channel.
-ghost use Rattle.std.specs.Prelude.{◌≡◌, ◌≤◌, length};
-ghost use Rattle.receiver.specs.Bursts.{ForwardCosts, ForwardSurvivors, BackwardCosts};
+ghost use Rattle.receiver.specs.Bursts.{Kept};
+ghost use Rattle.receiver.specs.Sound.{Sound};
 
 use crate::inner::Burst;
 use channel::Channel;
@@ -14,13 +14,6 @@ mod readings;
 pub struct Receiver<C: Channel> {
     channel: C,
     burst: Burst,
-    ghost places: { length burst.places ≡ 128 },
-    ghost forward: { length burst.forward ≡ 129 },
-    ghost backward: { length burst.backward ≡ 129 },
-    ghost few: { burst.count ≤ 128 },
-    ghost ahead: { burst.marks.forward ≤ burst.count },
-    ghost behind: { burst.marks.backward ≤ burst.count },
-    ghost costs: { ForwardCosts burst },
-    ghost survivors: { ForwardSurvivors burst },
-    ghost onward: { BackwardCosts burst },
+    ghost kept: { Kept burst },
+    ghost sound: { Sound (C.meaning channel) burst },
 }

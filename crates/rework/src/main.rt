@@ -3,7 +3,7 @@
 
 ghost use Rattle.rework.specs.Worked.{Reworked};
 
-use burst::{Place, Priors};
+use burst::{Place, Priors, Refusal};
 use channel::Sample;
 use receiver::Settled;
 use runs::{Answer, Call, Heard, compare};
@@ -34,14 +34,22 @@ fn tell(rt: &HostRuntime, name: &str, told: Settled) -> anyhow::Result<()> {
     Ok(())
 }
 
+// Prints what a call is answered.
+fn say(rt: &HostRuntime, reply: Result<Answer, Refusal>) -> anyhow::Result<()> {
+    match reply {
+        Ok(answer) => say_answer(rt, answer),
+        Err(refusal) => {
+            let number = refusal.number();
+            println!(rt; "  refused with {number}")?;
+            Ok(())
+        }
+    }
+}
+
 // Prints an answer.
-fn say(rt: &HostRuntime, answer: Answer) -> anyhow::Result<()> {
+fn say_answer(rt: &HostRuntime, answer: Answer) -> anyhow::Result<()> {
     match answer {
         Answer::Done => println!(rt; "  done")?,
-        Answer::Refused(refusal) => {
-            let number = refusal.number();
-            println!(rt; "  refused with {number}")?
-        }
         Answer::Settled(told) => tell(rt, "  settled", told)?,
         Answer::Cost(cost) => println!(rt; "  cost {cost}")?,
         Answer::Lean(lean) => println!(rt; "  lean {lean}")?,
@@ -58,8 +66,8 @@ fn say(rt: &HostRuntime, answer: Answer) -> anyhow::Result<()> {
 // Compares a receiver that is worked through calls with a new one, and prints what both tell.
 fn show(rt: &HostRuntime, channel: Taps, calls: &[Call], further: &[Call]) -> anyhow::Result<()> {
     let unheard = Heard {
-        one: Answer::Done,
-        other: Answer::Done,
+        one: Ok(Answer::Done),
+        other: Ok(Answer::Done),
     };
     let mut heard = [unheard; 16];
     let mut bytes = [9; 4];

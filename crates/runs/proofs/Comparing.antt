@@ -3,21 +3,20 @@ use Rattle.std.proofs.Common.{◌≡◌, ℕ, ◌+◌, ◌-◌, ◌≤◌, Bool,
 use Rattle.channel.specs.Meaning.{Meaning, Lawful}
 use Rattle.trellis.specs.Least.{IsLeast}
 use Rattle.burst.specs.Sequences.{total}
-use Rattle.recursions.specs.Answers.{value_cost}
+use Rattle.recursions.specs.Answers.{value_cost, best}
 use Rattle.recursions.specs.Depths.{depth_allowed}
 use Rattle.recursions.proofs.FullDepth.{full_depth_is_least}
 use Rattle.recursions.proofs.Shown.{best_is_shown}
 use Rattle.receiver.specs.Bursts.{places_of}
-use Rattle.receiver.specs.Settling.{Left, SettledSound, best_cost}
+use Rattle.receiver.specs.Settling.{Left, best_cost}
 use Rattle.receiver.specs.Sound.{Sound}
 use Rattle.receiver.specs.Standing.{Standing, standing, deepened, settled}
 use Rattle.receiver.specs.declared.inner.Burst.{Burst}
 use Rattle.receiver.specs.declared.settle.Settled.{Settled}
-use Rattle.runs.specs.Calls.{unless, after, stale_columns, best_at, best_told}
+use Rattle.runs.specs.Calls.{Reply, unless, after, stale_columns, best_at, best_told}
 use Rattle.runs.specs.Law.{Goes, Alike, OfSequences, AlwaysOfSequences}
 use Rattle.runs.specs.Obeying.{Hears}
 use Rattle.runs.specs.Runs.{ends, given, answers_to, bytes_after}
-use Rattle.runs.specs.declared.call.Answer.{Answer}
 use Rattle.runs.specs.declared.call.Call.{Call}
 use Rattle.runs.specs.declared.call.Call.TheVariants as calls
 use Rattle.runs.proofs.Obeys.{best_again}
@@ -25,14 +24,14 @@ use Rattle.runs.proofs.Renewing.{unworked, given_is}
 
 -- a burst in which s stands is settled, and then given calls
 module _ (m : Meaning) (s : Standing) (b b₁ b₂ : Burst) (stands : standing b ≡ s) (long : length (places_of b) ≡ b.count) (told : Settled)
-    (columns : told.columns ≡ b.count - b.marks.forward + b.marks.backward) (left : Left b b₁) (sound : SettledSound m b b₁ told.best) where
+    (columns : told.columns ≡ b.count - b.marks.forward + b.marks.backward) (left : Left b b₁) (best_is : best_cost told.best ≡ best m b.depth (places_of b)) where
   pub settled_stands : standing b₁ ≡ settled s
   settled_stands = left.stands ∙ ap (λ (x : Standing). settled x) stands
 
-  pub goes_on : (calls : List Call) (bytes bytes' : List ℕ) (said : List Answer) → Hears m calls b₁ b₂ bytes bytes' said → Goes m s calls told said bytes bytes'
+  pub goes_on : (calls : List Call) (bytes bytes' : List ℕ) (said : List Reply) → Hears m calls b₁ b₂ bytes bytes' said → Goes m s calls told said bytes bytes'
   goes_on calls bytes bytes' said hears = record {
     columns = columns ∙ ap (λ (n : ℕ). n - b.marks.forward + b.marks.backward) (sym long) ∙ ap (λ (x : Standing). stale_columns x) stands;
-    best = sound.best ∙ ap (λ (x : Standing). best_at m x) stands;
+    best = best_is ∙ ap (λ (x : Standing). best_at m x) stands;
     answers = hears.answers ∙ ap (λ (x : Standing). answers_to m calls x bytes) settled_stands;
     writes = hears.writes ∙ ap (λ (x : Standing). bytes_after m calls x bytes) settled_stands;
   }
@@ -47,7 +46,7 @@ same_best : (one other : Option ℕ) → best_cost one ≡ best_cost other → o
 same_best one other same = best_again one ∙ ap best_told same ∙ sym (best_again other)
 
 -- two receivers that go on from what stands in both are alike
-pub go_alike : (m : Meaning) (s s' : Standing) (calls : List Call) (told told' : Settled) (said said' : List Answer) (bytes bytes₁ bytes₂ : List ℕ)
+pub go_alike : (m : Meaning) (s s' : Standing) (calls : List Call) (told told' : Settled) (said said' : List Reply) (bytes bytes₁ bytes₂ : List ℕ)
     → s' ≡ unworked s.depth s.places (length s.places) → s.backward ≤ length s.places
     → Goes m s calls told said bytes bytes₁ → Goes m s' calls told' said' bytes bytes₂ → Alike told told' said said' bytes₁ bytes₂
 go_alike m s s' calls told told' said said' bytes bytes₁ bytes₂ is within goes goes' =
@@ -63,7 +62,7 @@ go_alike m s s' calls told told' said said' bytes bytes₁ bytes₂ is within go
 
 -- one burst was settled where s stood, and the other receiver was given what stands in it
 pub alike_by : (m m' : Meaning) → m ≡ m' → (s : Standing) (b : Burst) → standing b ≡ settled s → Sound m b → length (places_of b) ≡ b.count → b.count ≤ 128
-    → s.backward ≤ length s.places → (calls : List Call) (told told' : Settled) (said said' : List Answer) (bytes bytes' bytes₁ bytes₂ : List ℕ) → bytes ≡ bytes'
+    → s.backward ≤ length s.places → (calls : List Call) (told told' : Settled) (said said' : List Reply) (bytes bytes' bytes₁ bytes₂ : List ℕ) → bytes ≡ bytes'
     → Goes m s calls told said bytes bytes₁ → Goes m' (given m' (settled s)) calls told' said' bytes' bytes₂ → Alike told told' said said' bytes₁ bytes₂
 alike_by m m' means s b stands sound long few within calls told told' said said' bytes bytes' bytes₁ bytes₂ same goes goes' =
     let again : given m (settled s) ≡ unworked s.depth s.places (length s.places) =

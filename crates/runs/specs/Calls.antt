@@ -25,19 +25,14 @@ abbrev pub unless : {X : Type 0} → Option ℕ → X → X → X
 unless None is otherwise = is
 unless (Some n) is otherwise = otherwise
 
+-- what a call is answered: an answer, or why it is refused
+abbrev pub Reply : Type 0
+Reply = Result Answer Refusal
+
 -- the answer, unless a number refuses it
-abbrev pub replied : Option ℕ → Answer → Answer
-replied None told = told
-replied (Some n) told = answers.Refused (refusal_of n)
-
--- the answer that a result is
-abbrev pub told : {X : Type 0} → (X → Answer) → Result X Refusal → Answer
-told tell (Ok x) = tell x
-told tell (Err e) = answers.Refused e
-
--- that of a change
-abbrev pub done : Result (Unit {0}) Refusal → Answer
-done r = told (λ x. answers.Done) r
+abbrev pub replied : Option ℕ → Answer → Reply
+replied None told = Ok told
+replied (Some n) told = Err (refusal_of n)
 
 abbrev pub marks_of : Standing → Marks
 marks_of s = record { forward = s.forward; backward = s.backward }
@@ -88,18 +83,18 @@ after m calls.Shown s = s
 after m calls.Marks s = s
 
 -- What it answers, with a list of bytes.
-abbrev pub answer : Meaning → Call → Standing → List ℕ → Answer
+abbrev pub answer : Meaning → Call → Standing → List ℕ → Reply
 answer m (calls.Add p) s bytes = replied (add_refusal m (length s.places) p) answers.Done
 answer m (calls.Retake k z) s bytes = replied (retake_refusal m (length s.places) k z) answers.Done
 answer m (calls.Reweigh k priors) s bytes = replied (reweigh_refusal m (length s.places) k priors) answers.Done
 answer m (calls.Cut n) s bytes = replied (cut_refusal (length s.places) n) answers.Done
 answer m (calls.Depth q) s bytes = replied (depth_refusal m q) answers.Done
-answer m calls.Settle s bytes = answers.Settled (record { columns = stale_columns s; best = best_told (best_at m s) })
+answer m calls.Settle s bytes = Ok (answers.Settled (record { columns = stale_columns s; best = best_told (best_at m s) }))
 answer m (calls.Cost k a) s bytes = replied (cost_refused m s k a) (answers.Cost (cost_at m s k a))
 answer m (calls.Lean k a) s bytes = replied (cost_refused m s k a) (answers.Lean (lean_of (cost_at m s k 0) (cost_at m s k a)))
 answer m (calls.Symbol k) s bytes = replied (symbol_refused m s k) (answers.Symbol (slice_index (shown_at m s) k))
 answer m calls.Shown s bytes = replied (shown_refused m s bytes) answers.Done
-answer m calls.Marks s bytes = answers.Marks (marks_of s)
+answer m calls.Marks s bytes = Ok (answers.Marks (marks_of s))
 
 -- What it leaves in the list: shown writes the sequence at the front, and no other call writes.
 abbrev pub written : Meaning → Call → Standing → List ℕ → List ℕ

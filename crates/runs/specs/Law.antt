@@ -8,28 +8,27 @@ use Rattle.recursions.specs.Laws.{BestShown}
 use Rattle.receiver.specs.Settling.{best_cost}
 use Rattle.receiver.specs.Standing.{Standing, settled}
 use Rattle.receiver.specs.declared.settle.Settled.{Settled}
-use Rattle.runs.specs.Calls.{stale_columns, best_at, cost_at}
+use Rattle.runs.specs.Calls.{Reply, stale_columns, best_at, cost_at}
 use Rattle.runs.specs.Runs.{ends, answers_to, bytes_after}
-use Rattle.runs.specs.declared.call.Answer.{Answer}
 use Rattle.runs.specs.declared.call.Call.{Call}
 use Rattle.runs.specs.declared.call.Heard.{Heard}
 
 -- the answers of the one and of the other receiver, as far as calls were made
-abbrev pub one_said : ℕ → List Heard → List Answer
+abbrev pub one_said : ℕ → List Heard → List Reply
 one_said n heard = map (λ h. h.one) (take n heard)
 
-abbrev pub other_said : ℕ → List Heard → List Answer
+abbrev pub other_said : ℕ → List Heard → List Reply
 other_said n heard = map (λ h. h.other) (take n heard)
 
 -- A receiver is settled where s stands and then given calls: what it tells, and what it leaves in a list of bytes.
-pub record Goes (m : Meaning) (s : Standing) (calls : List Call) (told : Settled) (said : List Answer) (bytes bytes' : List ℕ) : Type 0 where
+pub record Goes (m : Meaning) (s : Standing) (calls : List Call) (told : Settled) (said : List Reply) (bytes bytes' : List ℕ) : Type 0 where
   pub columns : told.columns ≡ stale_columns s
   pub best : best_cost told.best ≡ best_at m s
   pub answers : said ≡ answers_to m calls (settled s) bytes
   pub writes : bytes' ≡ bytes_after m calls (settled s) bytes
 
 -- Two receivers cannot be told apart, and the one worked no more columns than the other.
-pub record Alike (told told' : Settled) (said said' : List Answer) (bytes bytes' : List ℕ) : Type 0 where
+pub record Alike (told told' : Settled) (said said' : List Reply) (bytes bytes' : List ℕ) : Type 0 where
   pub best : told.best ≡ told'.best
   pub columns : told.columns ≤ told'.columns
   pub answers : said ≡ said'

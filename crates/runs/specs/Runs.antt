@@ -2,8 +2,7 @@
 use Rattle.std.specs.Prelude.{ℕ, List, [], ◌∷◌, map}
 use Rattle.channel.specs.Meaning.{Meaning}
 use Rattle.receiver.specs.Standing.{Standing, new_standing, settled}
-use Rattle.runs.specs.Calls.{after, answer, written}
-use Rattle.runs.specs.declared.call.Answer.{Answer}
+use Rattle.runs.specs.Calls.{Reply, after, answer, written}
 use Rattle.runs.specs.declared.call.Call.{Call}
 use Rattle.runs.specs.declared.call.Call.TheVariants.{Add, Depth}
 
@@ -13,7 +12,7 @@ ends m [] s = s
 ends m (call ∷ calls) s = ends m calls (after m call s)
 
 -- What they answer, with a list of bytes.
-abbrev pub answers_to : Meaning → List Call → Standing → List ℕ → List Answer
+abbrev pub answers_to : Meaning → List Call → Standing → List ℕ → List Reply
 answers_to m [] s bytes = []
 answers_to m (call ∷ calls) s bytes = answer m call s bytes ∷ answers_to m calls (after m call s) (written m call s bytes)
 

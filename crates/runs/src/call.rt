@@ -31,13 +31,11 @@ pub enum Call {
     Marks,
 }
 
-/// What it answers.
+/// What it answers to a call that it does not refuse.
 #[derive(Clone, Copy, PartialEq, Eq)]
 pub enum Answer {
     /// The change is made, or the symbols are written.
     Done,
-    /// The call is refused, and nothing has changed.
-    Refused(Refusal),
     /// How many columns were worked, and the best.
     Settled(Settled),
     Cost(Cost),
@@ -50,6 +48,6 @@ pub enum Answer {
 /// What two receivers answer to the same call.
 #[derive(Clone, Copy, PartialEq, Eq)]
 pub struct Heard {
-    pub one: Answer,
-    pub other: Answer,
+    pub one: Result<Answer, Refusal>,
+    pub other: Result<Answer, Refusal>,
 }

@@ -1,6 +1,5 @@
 //! The same calls, given to two receivers.
 ghost use Rattle.std.specs.Prelude.{◌≡◌, min, length, take};
-ghost use Rattle.receiver.specs.Sound.{Sound};
 ghost use Rattle.runs.specs.Law.{one_said, other_said};
 ghost use Rattle.runs.specs.Obeying.{Hears};
 
@@ -19,15 +18,14 @@ pub(crate) fn hear<C: Channel, D: Channel>(
     heard: &mut [Heard],
 ) -> usize
     ensures asked { result ≡ min (length list.now) (length heard.old) }
-    ensures one { Sound (C.meaning one.old.channel) one.old.burst → Hears (C.meaning one.old.channel) (take result list.now) one.old.burst one.new.burst bytes.old bytes.new (one_said result heard.new) }
-    ensures other { Sound (D.meaning other.old.channel) other.old.burst → Hears (D.meaning other.old.channel) (take result list.now) other.old.burst other.new.burst other_bytes.old other_bytes.new (other_said result heard.new) }
+    ensures one { Hears (C.meaning one.old.channel) (take result list.now) one.old.burst one.new.burst bytes.old bytes.new (one_said result heard.new) }
+    ensures other { Hears (D.meaning other.old.channel) (take result list.now) other.old.burst other.new.burst other_bytes.old other_bytes.new (other_said result heard.new) }
 {
     let n = list.len().min(heard.len());
-    for i in 0..n {
-        let call = list[i];
+    for (i, call) in list[..n].iter().enumerate() {
         heard[i] = Heard {
-            one: obey(one, call, bytes),
-            other: obey(other, call, other_bytes),
+            one: obey(one, *call, bytes),
+            other: obey(other, *call, other_bytes),
         };
     }
     n

@@ -1,6 +1,5 @@
 //! Many calls, one after the other.
 ghost use Rattle.std.specs.Prelude.{◌≡◌, [], ◌∷◌, map};
-ghost use Rattle.receiver.specs.Sound.{Sound};
 ghost use Rattle.receiver.specs.Standing.{standing};
 ghost use Rattle.runs.specs.Obeying.{Ran};
 ghost use Rattle.runs.specs.Runs.{given};
@@ -15,7 +14,7 @@ use receiver::Receiver;
 // Gives a receiver a call, whatever it answers.
 fn ask<C: Channel>(receiver: &mut Receiver<C>, call: Call)
     ensures channel { receiver.new.channel ≡ receiver.old.channel }
-    ensures ran { Sound (C.meaning receiver.old.channel) receiver.old.burst → Ran (C.meaning receiver.old.channel) (call ∷ []) receiver.old.burst receiver.new.burst }
+    ensures ran { Ran (C.meaning receiver.old.channel) (call ∷ []) receiver.old.burst receiver.new.burst }
 {
     let mut unread = [0; 128];
     let _ = obey(receiver, call, &mut unread);
@@ -24,7 +23,7 @@ fn ask<C: Channel>(receiver: &mut Receiver<C>, call: Call)
 // Gives a receiver all of the calls, whatever it answers.
 pub(crate) fn run<C: Channel>(receiver: &mut Receiver<C>, list: &[Call])
     ensures channel { receiver.new.channel ≡ receiver.old.channel }
-    ensures ran { Sound (C.meaning receiver.old.channel) receiver.old.burst → Ran (C.meaning receiver.old.channel) list.now receiver.old.burst receiver.new.burst }
+    ensures ran { Ran (C.meaning receiver.old.channel) list.now receiver.old.burst receiver.new.burst }
 {
     for call in list {
         ask(receiver, *call);
@@ -34,7 +33,7 @@ pub(crate) fn run<C: Channel>(receiver: &mut Receiver<C>, list: &[Call])
 // Appends place after place.
 fn add_all<C: Channel>(receiver: &mut Receiver<C>, places: &[Place])
     ensures channel { receiver.new.channel ≡ receiver.old.channel }
-    ensures ran { Sound (C.meaning receiver.old.channel) receiver.old.burst → Ran (C.meaning receiver.old.channel) (map calls.Add places.now) receiver.old.burst receiver.new.burst }
+    ensures ran { Ran (C.meaning receiver.old.channel) (map calls.Add places.now) receiver.old.burst receiver.new.burst }
 {
     for place in places {
         let _ = add(receiver, *place);
@@ -44,7 +43,6 @@ fn add_all<C: Channel>(receiver: &mut Receiver<C>, places: &[Place])
 // A new receiver that is given the depth and the places that stand in another.
 pub(crate) fn renewed<C: Channel, D: Channel>(from: &Receiver<C>, channel: D) -> Receiver<D>
     ensures channel { result.channel ≡ channel }
-    ensures sound { Sound (D.meaning channel) result.burst }
     ensures stands { standing result.burst ≡ given (D.meaning channel) (standing from.now.burst) }
 {
     let mut receiver = Receiver::new(channel);

@@ -4,7 +4,7 @@ ghost use Rattle.channel.specs.Meaning.{taken};
 ghost use Rattle.burst.specs.Places.{priors_allowed};
 ghost use Rattle.burst.specs.Refusals.{refused_by};
 ghost use Rattle.receiver.specs.Changes.{Altered, Shortened, Then, Passed};
-ghost use Rattle.receiver.specs.Sound.{Sound, TellsFull};
+ghost use Rattle.receiver.specs.Sound.{TellsFull};
 ghost use Rattle.receiver.specs.Standing.{standing, full_depth, retake_refusal, retaken, reweigh_refusal, reweighed, cut_refusal};
 
 use crate::receiver::Receiver;
@@ -61,7 +61,6 @@ impl<C: Channel> Receiver<C> {
         ensures channel { self.new.channel ≡ self.old.channel }
         ensures answer { refused_by result ≡ retake_refusal (C.meaning self.old.channel) self.old.burst.count place sample }
         ensures stands { Then result self.old.burst self.new.burst (Altered self.old.burst self.new.burst (retaken (full_depth (C.meaning self.old.channel) self.old.burst.depth) (standing self.old.burst) place sample)) }
-        ensures sound { Sound (C.meaning self.old.channel) self.old.burst → Sound (C.meaning self.old.channel) self.new.burst }
     {
         self.check_sample(place, sample)?;
         let full = self.at_full_depth();
@@ -74,7 +73,6 @@ impl<C: Channel> Receiver<C> {
         ensures channel { self.new.channel ≡ self.old.channel }
         ensures answer { refused_by result ≡ reweigh_refusal (C.meaning self.old.channel) self.old.burst.count place priors }
         ensures stands { Then result self.old.burst self.new.burst (Altered self.old.burst self.new.burst (reweighed (full_depth (C.meaning self.old.channel) self.old.burst.depth) (standing self.old.burst) place priors)) }
-        ensures sound { Sound (C.meaning self.old.channel) self.old.burst → Sound (C.meaning self.old.channel) self.new.burst }
     {
         self.check_priors(place, priors)?;
         let full = self.at_full_depth();
@@ -98,7 +96,6 @@ impl<C: Channel> Receiver<C> {
         ensures channel { self.new.channel ≡ self.old.channel }
         ensures answer { refused_by result ≡ cut_refusal self.old.burst.count n }
         ensures stands { Then result self.old.burst self.new.burst (Shortened self.old.burst self.new.burst n) }
-        ensures sound { Sound (C.meaning self.old.channel) self.old.burst → Sound (C.meaning self.old.channel) self.new.burst }
     {
         self.check_cut(n)?;
         self.burst.cut(n);

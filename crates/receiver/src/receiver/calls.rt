@@ -3,9 +3,9 @@ ghost use Rattle.std.specs.Prelude.{◌≡◌, ◌+◌, ◌-◌};
 ghost use Rattle.burst.specs.Refusals.{refused_by};
 ghost use Rattle.receiver.specs.Bursts.{places_of};
 ghost use Rattle.receiver.specs.Changes.{Added, Deepened, Then, Passed};
-ghost use Rattle.receiver.specs.Readings.{Answers};
-ghost use Rattle.receiver.specs.Settling.{Bounded, Left, Worked, SettledSound};
-ghost use Rattle.receiver.specs.Sound.{Shaped, HasRoom, Sound};
+ghost use Rattle.recursions.specs.Answers.{best};
+ghost use Rattle.receiver.specs.Settling.{Left, Worked, best_cost};
+ghost use Rattle.receiver.specs.Sound.{HasRoom};
 ghost use Rattle.receiver.specs.Standing.{standing, new_standing, add_refusal, depth_refusal};
 
 use crate::inner::{Burst, MOST, Marks};
@@ -20,7 +20,6 @@ impl<C: Channel> Receiver<C> {
     pub fn new(channel: C) -> Receiver<C>
         ensures channel { result.channel ≡ channel }
         ensures stands { standing result.burst ≡ new_standing (C.meaning channel) }
-        ensures sound { Sound (C.meaning channel) result.burst }
     {
         let (depth, shape) = Shape::deepest(&channel);
         Receiver {
@@ -51,7 +50,6 @@ impl<C: Channel> Receiver<C> {
         ensures channel { self.new.channel ≡ self.old.channel }
         ensures answer { refused_by result ≡ add_refusal (C.meaning self.old.channel) self.old.burst.count place }
         ensures stands { Then result self.old.burst self.new.burst (Added self.old.burst self.new.burst place) }
-        ensures sound { Sound (C.meaning self.old.channel) self.old.burst → Sound (C.meaning self.old.channel) self.new.burst }
     {
         self.check_place(&place)?;
         self.burst.add(place);
@@ -63,8 +61,6 @@ impl<C: Channel> Receiver<C> {
         ensures channel { self.new.channel ≡ self.old.channel }
         ensures answer { refused_by result ≡ depth_refusal (C.meaning self.old.channel) depth }
         ensures stands { Then result self.old.burst self.new.burst (Deepened self.old.burst self.new.burst depth) }
-        ensures shaped { Answers result (λ _. Shaped (C.meaning self.old.channel) self.new.burst) }
-        ensures sound { Sound (C.meaning self.old.channel) self.old.burst → Sound (C.meaning self.old.channel) self.new.burst }
     {
         let shape = Shape::new(&self.channel, depth)?;
         self.burst.deepen(depth, shape);
@@ -76,8 +72,8 @@ impl<C: Channel> Receiver<C> {
         ensures channel { self.new.channel ≡ self.old.channel }
         ensures count { result.columns ≡ self.old.burst.count - self.old.burst.marks.forward + self.old.burst.marks.backward }
         ensures left { Left self.old.burst self.new.burst }
-        ensures worked { Shaped (C.meaning self.old.channel) self.old.burst → Worked (C.meaning self.old.channel) self.old.burst self.new.burst result.best }
-        ensures sound { Sound (C.meaning self.old.channel) self.old.burst → SettledSound (C.meaning self.old.channel) self.old.burst self.new.burst result.best }
+        ensures worked { Worked (C.meaning self.old.channel) self.old.burst self.new.burst result.best }
+        ensures best { best_cost result.best ≡ best (C.meaning self.old.channel) self.old.burst.depth (places_of self.old.burst) }
     {
         self.burst.settle(&self.channel)
     }

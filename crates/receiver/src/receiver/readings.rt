@@ -6,7 +6,6 @@ ghost use Rattle.recursions.specs.Answers.{value_cost, best, shown};
 ghost use Rattle.receiver.specs.Bursts.{places_of};
 ghost use Rattle.receiver.specs.Changes.{Passed};
 ghost use Rattle.receiver.specs.Readings.{Answers, Readable, Shows, Leaves, ShownIsBest};
-ghost use Rattle.receiver.specs.Sound.{Sound};
 ghost use Rattle.receiver.specs.Standing.{stale, cost_refusal, symbol_refusal, shown_refusal};
 
 use crate::inner::MOST;
@@ -43,7 +42,7 @@ impl<C: Channel> Receiver<C> {
     /// The cost of a value at a place.
     pub fn cost(&self, place: usize, value: usize) -> Result<Cost, Refusal>
         ensures answer { refused_by result ≡ cost_refusal (C.meaning self.now.channel) self.now.burst.count self.now.burst.marks place value }
-        ensures value { Sound (C.meaning self.now.channel) self.now.burst → Answers result (λ c. c ≡ value_cost (C.meaning self.now.channel) self.now.burst.depth (places_of self.now.burst) place value) }
+        ensures value { Answers result (λ c. c ≡ value_cost (C.meaning self.now.channel) self.now.burst.depth (places_of self.now.burst) place value) }
     {
         self.check_value(place, value)?;
         Ok(self.burst.cost(&self.channel, place, value))
@@ -52,7 +51,7 @@ impl<C: Channel> Receiver<C> {
     /// The lean of a value at a place: the cost of 0 minus the cost of the value.
     pub fn lean(&self, place: usize, value: usize) -> Result<Lean, Refusal>
         ensures answer { refused_by result ≡ cost_refusal (C.meaning self.now.channel) self.now.burst.count self.now.burst.marks place value }
-        ensures value { Sound (C.meaning self.now.channel) self.now.burst → Answers result (λ l. l ≡ lean_of (value_cost (C.meaning self.now.channel) self.now.burst.depth (places_of self.now.burst) place 0) (value_cost (C.meaning self.now.channel) self.now.burst.depth (places_of self.now.burst) place value)) }
+        ensures value { Answers result (λ l. l ≡ lean_of (value_cost (C.meaning self.now.channel) self.now.burst.depth (places_of self.now.burst) place 0) (value_cost (C.meaning self.now.channel) self.now.burst.depth (places_of self.now.burst) place value)) }
     {
         self.check_value(place, value)?;
         let zero = self.burst.cost(&self.channel, place, 0);
@@ -61,8 +60,8 @@ impl<C: Channel> Receiver<C> {
 
     /// The symbol that the shown sequence has at a place.
     pub fn symbol(&self, place: usize) -> Result<u8, Refusal>
-        ensures answer { Sound (C.meaning self.now.channel) self.now.burst → refused_by result ≡ symbol_refusal self.now.burst.count self.now.burst.marks (best (C.meaning self.now.channel) self.now.burst.depth (places_of self.now.burst)) place }
-        ensures value { Sound (C.meaning self.now.channel) self.now.burst → Answers result (λ a. a ≡ slice_index (shown (C.meaning self.now.channel) self.now.burst.depth (places_of self.now.burst)) place) }
+        ensures answer { refused_by result ≡ symbol_refusal self.now.burst.count self.now.burst.marks (best (C.meaning self.now.channel) self.now.burst.depth (places_of self.now.burst)) place }
+        ensures value { Answers result (λ a. a ≡ slice_index (shown (C.meaning self.now.channel) self.now.burst.depth (places_of self.now.burst)) place) }
     {
         if self.burst.count <= place {
             return Err(Refusal::NoPlace);
@@ -80,9 +79,9 @@ impl<C: Channel> Receiver<C> {
 
     /// Writes the shown sequence at the front of a list, and leaves the rest of it.
     pub fn shown(&self, list: &mut [u8]) -> Result<(), Refusal>
-        ensures answer { Sound (C.meaning self.now.channel) self.now.burst → refused_by result ≡ shown_refusal self.now.burst.count self.now.burst.marks (best (C.meaning self.now.channel) self.now.burst.depth (places_of self.now.burst)) (length list.old) }
+        ensures answer { refused_by result ≡ shown_refusal self.now.burst.count self.now.burst.marks (best (C.meaning self.now.channel) self.now.burst.depth (places_of self.now.burst)) (length list.old) }
         ensures leaves { Leaves result self.now.burst.count list.old list.new }
-        ensures shown { Sound (C.meaning self.now.channel) self.now.burst → Answers result (λ _. Shows (C.meaning self.now.channel) self.now.burst list.old list.new) }
+        ensures shown { Answers result (λ _. Shows (C.meaning self.now.channel) self.now.burst list.old list.new) }
         ensures law { Answers result (λ _. ShownIsBest) }
     {
         if self.is_stale() {

@@ -1,6 +1,5 @@
-use Rattle.std.proofs.Common.{length, sym, ap, ◌∙◌, subst}
+use Rattle.std.proofs.Common.{length, sym, ap, ◌∙◌}
 use Rattle.std.proofs.lemmas.Result.{err_from_is_err_and}
-use Rattle.reading.specs.Received.{Begun}
 use Rattle.reading.proofs.Adding.{Handed, adds_place, refuses_place, still_begun}
 use Rattle.reading.proofs.add.add_place.Goals as goal
 
@@ -35,5 +34,5 @@ returns g c =
     let e = c.in_ok-add.ensures in
     record {
       does = λ n. adds_place k form n _ before after c.args.place.now c.place_of.result handed e.answer e.channel e.stands;
-      begun = λ b. subst (λ d. Begun (g.C.Channel.meaning d) after) (sym e.channel) (still_begun _ before after c.place_of.result e.stands e.sound b);
+      begun = still_begun before after c.place_of.result e.stands;
     }

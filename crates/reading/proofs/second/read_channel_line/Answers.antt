@@ -1,6 +1,5 @@
-use Rattle.std.proofs.Common.{sym, ap, ◌∙◌, subst, inr, w32, SFits, rules}
+use Rattle.std.proofs.Common.{ap, ◌∙◌, inr, w32, SFits, rules}
 use Rattle.std.proofs.lemmas.Int.{to_z-of_z}
-use Rattle.reading.specs.Received.{Begun}
 use Rattle.reading.specs.Steps.{depth_of}
 use Rattle.reading.proofs.Sayings.{after_depth_taken, tried_taken, tried_refused}
 use Rattle.reading.proofs.second.read_channel_line.Goals as goal
@@ -18,7 +17,7 @@ returns-in-Ok-receive g c =
       does =
           after_depth_taken k z _ h.0 _ h.1 h.2 h.3 h.4
           (tried_taken k 1 h.0 z _ _ form c.in-Ok.channel w (g.met.C.Spelled.meant c.in-Ok.channel ∙ ap k.meaning h.5) (ap depth_of (to_z-of_z w32 z fits)) h.5 r);
-      begun = subst (λ d. Begun (g.C.Channel.meaning d) w) (sym r.channel_is) r.begun;
+      begun = r.begun;
     }
 
 pub returns-in-Err-receive : goal.returns-in-Err-receive

@@ -1,7 +1,6 @@
-use Rattle.std.proofs.Common.{sym, refl, ap, subst, inr}
+use Rattle.std.proofs.Common.{refl, ap, inr}
 use Rattle.std.proofs.lemmas.Result.{err_from_is_err_and}
 use Rattle.forms.specs.Telling.{kept}
-use Rattle.reading.specs.Received.{Begun}
 use Rattle.reading.specs.Steps.{tuned, depth_of, a_depth, a_channel}
 use Rattle.reading.proofs.Sayings.{does_say, says_depth, says_place, says_channel, tried_taken, tried_refused, repeated_is}
 use Rattle.reading.proofs.second.read_depth.Goals as goal
@@ -30,7 +29,7 @@ returns-in_ok-receiver-in-Depth g c =
     let r = c.in_ok-receiver-in-Depth.ensures in
     record {
       does = does_say k 2 (tuned (form channel)) _ _ i (a_depth z) _ w.0 (tried_taken k 2 (form channel) z _ _ form channel c.in_ok-receiver-in-Depth.receiver (g.met.C.Spelled.meant channel) (ap depth_of (kept z w.1)) refl r);
-      begun = subst (λ d. Begun (g.C.Channel.meaning d) c.in_ok-receiver-in-Depth.receiver) (sym r.channel_is) r.begun;
+      begun = r.begun;
     }
 
 pub returns-in-Place : goal.returns-in-Place

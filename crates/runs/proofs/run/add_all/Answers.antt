@@ -9,7 +9,6 @@ loop-place-preserved g c =
     let inv = c.loop-place.invariant in
     let said = simp inv.0 at c.add.ensures.obeyed in (
       c.add.ensures.channel ∙ inv.0,
-      λ sound.
-          added_next m c.args.places.now c.loop-place.place-index c.place-item.result c.place-item.is c.loop-place-test.true b
-          c.loop-place.receiver.burst c.add.new.receiver.burst c.add.result (inv.1 sound) (said (inv.1 sound).sound),
+      added_next m c.args.places.now c.loop-place.place-index c.place-item.result c.place-item.is c.loop-place-test.true b
+          c.loop-place.receiver.burst c.add.new.receiver.burst c.add.result inv.1 said,
     )

@@ -9,7 +9,6 @@ loop-call-preserved g c =
     let inv = c.loop-call.invariant in
     let said = simp inv.0 at c.ask.ensures.ran in (
       c.ask.ensures.channel ∙ inv.0,
-      λ sound.
-          ran_next m c.args.list.now c.loop-call.call-index c.call-item.result c.call-item.is c.loop-call-test.true b c.loop-call.receiver.burst
-          c.ask.new.receiver.burst (inv.1 sound) (said (inv.1 sound).sound),
+      ran_next m c.args.list.now c.loop-call.call-index c.call-item.result c.call-item.is c.loop-call-test.true b c.loop-call.receiver.burst
+          c.ask.new.receiver.burst inv.1 said,
     )

@@ -1,5 +1,4 @@
 use Rattle.std.proofs.Common.{◌≡◌, take}
-use Rattle.receiver.specs.Sound.{Sound}
 use Rattle.runs.specs.Obeying.{Ran}
 use Rattle.runs.proofs.run.run.Given as goal
 
@@ -7,4 +6,4 @@ abbrev pub invariant-loop-call : goal.invariant-loop-call
 invariant-loop-call g l =
     let m = g.C.Channel.meaning l.initial.receiver.channel in
     (l.receiver.channel ≡ l.initial.receiver.channel)
-    × (Sound m l.initial.receiver.burst → Ran m (take l.call-index l.list) l.initial.receiver.burst l.receiver.burst)
+    × (Ran m (take l.call-index l.list) l.initial.receiver.burst l.receiver.burst)
