@@ -19,7 +19,7 @@ use Rattle.burst.specs.Places.{prior_cost}
 use Rattle.burst.specs.Sequences.{place_at, full_trellis, cost_trellis, total}
 use Rattle.burst.specs.Own.{sum_below, last_symbols, own_window, own_cost, HistoryIsTheLastSymbols, TotalIsByOwnWindows}
 use Rattle.burst.specs.declared.place.Place.{Place}
-use Rattle.burst.proofs.Sizes.{two_symbols}
+use Rattle.channel.proofs.Sizes.{two_symbols}
 
 module _ (symbols : ℕ) where
   -- one symbol more is the oldest

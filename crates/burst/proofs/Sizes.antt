@@ -1,27 +1,9 @@
--- How large memories and histories of a lawful meaning are.
+-- How many histories a lawful meaning has.
 use Rattle.std.proofs.Common.{◌≡◌, ℕ, suc, ◌-◌, ◌*◌, ◌^◌, ◌<◌, ◌≤◌, ◌⊎◌, sym, ap, ◌∙◌, inl, inr, mul-le-mul_right, arith}
 use native.Mathlib.Nat.{pow-succ', pow-le-pow_left, one-le-pow}
-use lib.Pow.{pow-lt}
-use Rattle.std.proofs.lemmas.Bool.{cases_lt}
 use Rattle.channel.specs.Meaning.{Meaning, Lawful, windows}
+use Rattle.channel.proofs.Sizes.{two_symbols}
 use Rattle.burst.specs.Histories.{histories}
-
-pub two_symbols : (m : Meaning) → Lawful m → 2 ≤ m.symbols
-two_symbols m lawful = elim lawful.two_or_four [ inl two ↦ omega arith | inr four ↦ omega arith ]
-
-pub four_symbols : (m : Meaning) → Lawful m → m.symbols ≤ 4
-four_symbols m lawful = elim lawful.two_or_four [ inl two ↦ omega arith | inr four ↦ omega arith ]
-
--- a memory is at most eight
-pub short_memory : (m : Meaning) → Lawful m → m.memory ≤ 8
-short_memory m lawful =
-    elim (cases_lt 8 m.memory) [
-      | inl long ↦
-          let more : 2 ^ 8 < 2 ^ m.memory = pow-lt long in
-          let less : 2 ^ m.memory ≤ m.symbols ^ m.memory = pow-le-pow_left (two_symbols m lawful) m.memory in
-          absurd (omega (arith, lawful.few_windows))
-      | inr short ↦ short
-    ]
 
 -- each history makes M windows
 pub windows_of_histories : (m : Meaning) → Lawful m → windows m ≡ m.symbols * histories m

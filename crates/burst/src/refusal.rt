@@ -6,23 +6,23 @@ ghost use Rattle.burst.specs.Refusals.{number_of};
 #[derive(Clone, Copy, PartialEq, Eq, Debug)]
 pub enum Refusal {
     /// 128 places are held, or more than 128 are handed in.
-    TooMany,
+    TooMany = 3,
     /// A sample is out of range or not taken.
-    NotTaken,
+    NotTaken = 4,
     /// Priors break their rule, or the value to pin is barred.
-    BadPriors,
+    BadPriors = 5,
     /// There is no such place, or more places are to be cut than there are.
-    NoPlace,
+    NoPlace = 6,
     /// The depth is not allowed.
-    BadDepth,
+    BadDepth = 7,
     /// The value is not one of the symbols.
-    NoValue,
+    NoValue = 8,
     /// Columns are stale: the receiver is to be settled first.
-    Stale,
+    Stale = 9,
     /// There is no best.
-    NoBest,
+    NoBest = 10,
     /// A list is too short.
-    TooShort,
+    TooShort = 11,
 }
 
 impl Refusal {
@@ -30,16 +30,6 @@ impl Refusal {
     pub fn number(self) -> u8
         ensures { result ≡ number_of self }
     {
-        match self {
-            Refusal::TooMany => 3,
-            Refusal::NotTaken => 4,
-            Refusal::BadPriors => 5,
-            Refusal::NoPlace => 6,
-            Refusal::BadDepth => 7,
-            Refusal::NoValue => 8,
-            Refusal::Stale => 9,
-            Refusal::NoBest => 10,
-            Refusal::TooShort => 11,
-        }
+        self as u8
     }
 }

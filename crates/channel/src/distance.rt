@@ -6,6 +6,6 @@ ghost use Rattle.channel.specs.Distances.{square};
 pub fn squared_distance(a: i32, b: i32) -> u64
     ensures { result ≡ square a b }
 {
-    let d = a.abs_diff(b) as u64;
+    let d = u64::from(a.abs_diff(b));
     d * d
 }

@@ -2,7 +2,7 @@
 #![tactic(auto)]
 
 ghost use Rattle.std.specs.Prelude.{◌≡◌, ℕ};
-ghost use Rattle.channel.specs.Meaning.{Meaning, Lawful, taken, cost_of};
+ghost use Rattle.channel.specs.Meaning.{Meaning, Lawful, windows, taken, cost_of};
 
 use cost::Cost;
 
@@ -32,6 +32,13 @@ pub trait Channel {
     /// How many symbols a sample depends on, its own among them.
     fn memory(&self) -> usize
         ensures { result ≡ (meaning self.now).memory };
+
+    /// The number of windows: one for each choice of the symbols that a sample depends on.
+    fn windows(&self) -> usize
+        ensures { result ≡ windows (meaning self.now) }
+    {
+        Self::alphabet().pow(self.memory() as u32)
+    }
 
     /// Whether the channel takes the sample. It takes none that is out of range.
     fn takes(&self, sample: Sample) -> bool

@@ -32,7 +32,7 @@ impl Noise {
     pub fn new(value: i32) -> Result<Noise, Refusal>
         ensures { MatchResult result (λ v. (in_noise_range value ≡ true) × (pos v.number ≡ value)) (λ e. (in_noise_range value ≡ false) × (number_of e ≡ 2)) }
     {
-        if value < Self::LEAST || Self::GREATEST < value {
+        if !(Self::LEAST..=Self::GREATEST).contains(&value) {
             return Err(Refusal::Range);
         }
         Ok(Noise {

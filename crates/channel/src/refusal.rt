@@ -6,9 +6,9 @@ ghost use Rattle.channel.specs.Refusals.{number_of};
 #[derive(Clone, Copy, PartialEq, Eq, Debug)]
 pub enum Refusal {
     /// The number of taps or entries, or the memory, is not allowed.
-    Size,
+    Size = 1,
     /// A tap, an entry, the noise or a mask is out of its range.
-    Range,
+    Range = 2,
 }
 
 impl Refusal {
@@ -16,9 +16,6 @@ impl Refusal {
     pub fn number(self) -> u8
         ensures { result ≡ number_of self }
     {
-        match self {
-            Refusal::Size => 1,
-            Refusal::Range => 2,
-        }
+        self as u8
     }
 }

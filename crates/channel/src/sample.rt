@@ -19,9 +19,7 @@ impl Sample {
     pub fn in_range(self) -> bool
         ensures { result ≡ in_range self }
     {
-        Self::LOWEST <= self.first
-            && self.first <= Self::HIGHEST
-            && Self::LOWEST <= self.second
-            && self.second <= Self::HIGHEST
+        let range = Self::LOWEST..=Self::HIGHEST;
+        range.contains(&self.first) && range.contains(&self.second)
     }
 }

@@ -43,7 +43,7 @@ impl Code {
         ensures answer { refused_by result ≡ load_refusal memory first second }
         ensures stands { Stands result self.old self.new memory first second }
     {
-        if memory < 1 || Self::LONGEST < memory {
+        if !(1..=Self::LONGEST).contains(&memory) {
             return Err(Refusal::Size);
         }
         let memory = memory.unsigned_abs() as usize;
@@ -63,7 +63,7 @@ fn mask(value: i32, memory: usize) -> Result<usize, Refusal>
     requires { memory ≤ 8 }
     ensures { MatchResult result (λ m. (mask_in_range memory value ≡ true) × (pos m ≡ value)) (λ e. (mask_in_range memory value ≡ false) × (number_of e ≡ 2)) }
 {
-    if value < 0 || 1 << memory <= value {
+    if !(0..1 << memory).contains(&value) {
         return Err(Refusal::Range);
     }
     Ok(value.unsigned_abs() as usize)

@@ -1,6 +1,5 @@
 //! What a sample costs under a code.
 ghost use Rattle.std.specs.Prelude.{◌≡◌, ◌≤◌, true, unsigned_abs, refl};
-ghost use Rattle.channel.specs.Meaning.{windows};
 ghost use Rattle.channel.specs.Samples.{in_range};
 ghost use Rattle.code.specs.Rule.{parity, bit_of_mask, cost_of_bit};
 ghost use Rattle.code.specs.Parity.{CodedBitIsTheParity};
@@ -55,13 +54,6 @@ impl Code {
         ensures parity { CodedBitIsTheParity }
     {
         coded_bit(self.second, window)
-    }
-
-    // The number of windows.
-    fn windows(&self) -> usize
-        ensures { result ≡ windows (meaning_of self.now) }
-    {
-        1 << self.memory
     }
 
     // The cost of a sample in range, in eighths.

@@ -53,10 +53,7 @@ impl fmt::Display for Lean {
             Lean::Eighths(eighths) => {
                 let sign = if *eighths < 0 { "-" } else { "" };
                 let (whole, rest) = in_decimal(eighths.unsigned_abs());
-                let tenths = rest / 100;
-                let hundredths = rest / 10 % 10;
-                let thousandths = rest % 10;
-                write!(f, "{sign}{whole}.{tenths}{hundredths}{thousandths}")
+                write!(f, "{sign}{whole}.{rest:03}")
             }
             Lean::Sure => write!(f, "sure"),
             Lean::Never => write!(f, "never"),

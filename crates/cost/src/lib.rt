@@ -10,8 +10,8 @@ mod show;
 
 pub use lean::{Lean, in_decimal};
 
-/// What a choice of symbols costs. Barred exceeds every number.
-#[derive(Clone, Copy, PartialEq, Eq, Debug)]
+/// What a choice of symbols costs. Barred exceeds every number, which an `Option` would have as its least value.
+#[derive(Clone, Copy, PartialEq, Eq, PartialOrd, Ord, Debug)]
 pub enum Cost {
     Eighths(u32),
     Barred,
@@ -25,11 +25,7 @@ impl Cost {
         ensures one { (result ≡ self) ⊎ (result ≡ other) }
         ensures laws { LeastIsAMinimum }
     {
-        match (self, other) {
-            (Cost::Eighths(m), Cost::Eighths(n)) => Cost::Eighths(m.min(n)),
-            (Cost::Barred, _) => other,
-            (_, Cost::Barred) => self,
-        }
+        self.min(other)
     }
 
     /// The sum of two costs, barred if either is. None if both are numbers and their sum exceeds 32 bits.
@@ -38,10 +34,7 @@ impl Cost {
         ensures laws { PlusIsASum }
     {
         match (self, other) {
-            (Cost::Eighths(m), Cost::Eighths(n)) => match m.checked_add(n) {
-                Some(sum) => Some(Cost::Eighths(sum)),
-                None => None,
-            },
+            (Cost::Eighths(m), Cost::Eighths(n)) => m.checked_add(n).map(Cost::Eighths),
             _ => Some(Cost::Barred),
         }
     }
@@ -50,9 +43,6 @@ impl Cost {
     pub fn is_barred(self) -> bool
         ensures { result ≡ barred self }
     {
-        match self {
-            Cost::Eighths(_) => false,
-            Cost::Barred => true,
-        }
+        self == Cost::Barred
     }
 }

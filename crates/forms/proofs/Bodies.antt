@@ -1,8 +1,9 @@
 -- Lines as their first words and what follows those.
-use Rattle.std.proofs.Common.{◌≡◌, ℕ, ◌<◌, ◌≤◌, min, ◌⊎◌, List, [], ◌∷◌, ◌++◌, map, length, get_or, take, ℤ, Ok, Err, codes, Result, sym, refl, ap, ◌∙◌, inl, inr, arith}
+use Rattle.std.proofs.Common.{◌≡◌, ℕ, ◌≤◌, ◌⊎◌, List, [], ◌∷◌, ◌++◌, map, length, get_or, take, ℤ, Ok, Err, codes, Result, sym, refl, ap, ◌∙◌, inl, inr, arith, ap₂, length-take, true, false, ◌||◌, ◌==◌}
 use Rattle.std.specs.Fmt.{signed_decimal}
 use Rattle.std.specs.List.{AllByRecursion}
-use Rattle.std.proofs.lemmas.List.{append_cancel_left, append-nil, take-map, take_all}
+use Rattle.std.proofs.lemmas.List.{append_cancel_left, append-nil, take_all, length-map}
+use Rattle.std.proofs.lemmas.Bool.Decides.{nat_tests}
 use Rattle.numerals.specs.Numbers.{SevenDigits}
 use Rattle.table.specs.declared.entry.Entry.{Entry}
 use Rattle.forms.specs.declared.fault.NotAForm.{NotAForm}
@@ -173,36 +174,31 @@ same_form f g lf lg e =
 
 -- what a line holds of taps
 pub taps_said :
-    (noise given : ℤ) (count : ℕ) (taps numbers pieces : List ℤ) → given ≡ noise → taps ≡ map nearest numbers → length numbers ≡ 9
-    → take count numbers ≡ take (length numbers) pieces → taps_form given (take count taps) ≡ taps_form noise (map nearest (take 9 pieces))
-taps_said noise given count taps numbers pieces e f nine g =
-    let t : take count taps ≡ map nearest (take 9 pieces) =
-    ap (take count) f ∙ take-map nearest count numbers ∙ ap (map nearest) (g ∙ ap (λ n. take n pieces) nine) in
-    cc
+    (noise given : ℤ) (taps numbers pieces : List ℤ) → given ≡ noise → taps ≡ take 9 (map nearest numbers) → numbers ≡ take 9 pieces
+    → taps_form given taps ≡ taps_form noise (map nearest (take 9 pieces))
+taps_said noise given taps numbers pieces e f g =
+    let few : length (map nearest (take 9 pieces)) ≤ 9 = simp length-map (omega (arith, length-take 9 pieces)) in
+    let t : taps ≡ map nearest (take 9 pieces) = f ∙ ap (λ l. take 9 (map nearest l)) g ∙ take_all 9 (map nearest (take 9 pieces)) few in
+    ap₂ taps_form e t
 
 -- and of a table
 pub table_said :
-    (noise memory given told : ℤ) (count : ℕ) (entries pieces : List Entry) → given ≡ noise → told ≡ memory → length entries ≡ 257
-    → take count entries ≡ take (length entries) pieces → table_form given told (take count entries) ≡ table_form noise memory (take 257 pieces)
-table_said noise memory given told count entries pieces e f all g =
-    let t : take count entries ≡ take 257 pieces = g ∙ ap (λ n. take n pieces) all in
-    cc
+    (noise memory given told : ℤ) (entries pieces : List Entry) → given ≡ noise → told ≡ memory → entries ≡ take 257 pieces
+    → table_form given told entries ≡ table_form noise memory (take 257 pieces)
+table_said noise memory given told entries pieces e f t = cc
 
--- a list that is held whole
-pub held_whole : {X : Type 0} (items pieces : List X) (count : ℕ) → count ≡ min (length pieces) (length items) → count < length items → take count items ≡ take (length items) pieces → (take count items ≡ pieces) × (length pieces ≡ count)
-held_whole items pieces count e lt g = (g ∙ take_all (length items) pieces (omega arith), omega arith)
+-- two or four priors are held whole
+pub two_or_four : (n : ℕ) → (n == 2 || n == 4) ≡ true → (n ≡ 2) ⊎ (n ≡ 4)
+two_or_four n h = grind (arith, nat_tests)
 
--- two or four priors
+pub held_whole : (kept pieces : List Prior) → kept ≡ take 5 pieces → (length kept ≡ 2) ⊎ (length kept ≡ 4) → kept ≡ pieces
+held_whole kept pieces front (inl two) = front ∙ take_all 5 pieces (omega (arith, ap length front, length-take 5 pieces))
+held_whole kept pieces front (inr four) = front ∙ take_all 5 pieces (omega (arith, ap length front, length-take 5 pieces))
+
 pub some_priors : (n : ℕ) → (n ≡ 2) ⊎ (n ≡ 4) → 1 ≤ n
 some_priors n (inl e) = omega arith
 some_priors n (inr e) = omega arith
 
-pub other_count :
-    (items pieces priors : List Prior) (count : ℕ) → length items ≡ 5 → count ≡ min (length pieces) (length items) → pieces ≡ priors
-    → (count ≡ 2 → ⊥) → (count ≡ 4 → ⊥) → (length priors ≡ 2) ⊎ (length priors ≡ 4) → ⊥
-other_count items pieces priors count five e same two four (inl h) = two (omega (arith, ap length same))
-other_count items pieces priors count five e same two four (inr h) = four (omega (arith, ap length same))
-
-pub room_left : (count room : ℕ) → room ≡ 5 → (count ≡ 2) ⊎ (count ≡ 4) → count < room
-room_left count room five (inl e) = omega arith
-room_left count room five (inr e) = omega arith
+pub other_count : (kept pieces priors : List Prior) → kept ≡ take 5 pieces → pieces ≡ priors → (length kept == 2 || length kept == 4) ≡ false → (length priors ≡ 2) ⊎ (length priors ≡ 4) → ⊥
+other_count kept pieces priors front same none (inl h) = let k : length kept ≡ 2 = omega (arith, ap length front, length-take 5 pieces, ap length same) in grind (arith, nat_tests)
+other_count kept pieces priors front same none (inr h) = let k : length kept ≡ 4 = omega (arith, ap length front, length-take 5 pieces, ap length same) in grind (arith, nat_tests)

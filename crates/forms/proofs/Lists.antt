@@ -1,7 +1,8 @@
 -- Pieces read one after another.
-use Rattle.std.proofs.Common.{◌≡◌, ℕ, ◌+◌, ◌-◌, ◌<◌, ◌≤◌, min, ◌⊎◌, List, [], ◌∷◌, ◌++◌, length, get_or, take, drop, set, codes, sym, refl, ap, ◌∙◌, subst, inl, inr, append_assoc, arith, length-append, length-drop, length-set, length-take}
+use Rattle.std.proofs.Common.{◌≡◌, ℕ, ◌+◌, ◌-◌, ◌<◌, ◌≤◌, ◌⊎◌, List, [], ◌∷◌, ◌++◌, length, get_or, take, drop, codes, sym, refl, ap, ◌∙◌, subst, inl, inr, append_assoc, arith, length-append, length-drop, length-take}
 use Rattle.std.specs.List.{flat_map, AllByRecursion}
-use Rattle.std.proofs.lemmas.List.{take_all, take-append-le, take_more_set, flat_map_more, length_push}
+use Rattle.std.proofs.lemmas.Bool.{cases_lt}
+use Rattle.std.proofs.lemmas.List.{take_all, take-append-le, length-take-le, flat_map_more}
 use Rattle.std.proofs.ByRecursion.{All-push}
 use Rattle.forms.specs.Forms.{feed, listed}
 use Rattle.forms.specs.Pieces.{Ends, Told, Kept}
@@ -18,22 +19,33 @@ shorter rest word next h e = omega (arith, simp (length-append, length-take, len
 not_space : (rest after : List ℕ) → rest ≡ 32 ∷ after → rest ≡ shut → ⊥
 not_space rest after e r = let z : ◌≡◌ {A = ℕ} 32 41 = ap (λ l. get_or l 0 0) (sym e ∙ r) in omega arith
 
+-- the first of what was kept and one more are the first of what was read
+pub first_more : {X : Type 0} (room : ℕ) (seen : List X) (x : X) → take room (take room seen ++ x ∷ []) ≡ take room (seen ++ x ∷ [])
+first_more room seen x =
+    elim (cases_lt (length seen) room) [
+      | inl short ↦ ap (λ l. take room (l ++ x ∷ [])) (take_all room seen (omega arith))
+      | inr long ↦
+          let full : length (take room seen) ≡ room = length-take-le room seen long in
+          take-append-le room (take room seen) (x ∷ []) (omega (arith, full))
+          ∙ take_all room (take room seen) (omega (arith, full))
+          ∙ sym (take-append-le room seen (x ∷ []) long)
+    ]
+
 module _ {X : Type 0} (write : X → List ℕ) (lawful : X → Type 0) where
   pub ends_spaced : (us : List X) (r : List ℕ) → Ends r → Ends (spaced write us ++ r)
   ends_spaced [] r e = e
   ends_spaced (u ∷ us) r e = inl refl
 
   -- what has been read, and how much of it is kept
-  pub record Got (text : List ℕ) (kept : List X) (count : ℕ) (rest : List ℕ) : Type 0 where
+  pub record Got (room : ℕ) (text : List ℕ) (kept : List X) (rest : List ℕ) : Type 0 where
     pub seen : List X
     pub so_far : text ≡ spaced write seen ++ rest
     pub all_lawful : AllByRecursion lawful seen
     pub ends : 0 < length seen → Ends rest
-    pub counted : count ≡ min (length seen) (length kept)
-    pub front : take count kept ≡ take (length kept) seen
+    pub front : kept ≡ take room seen
 
-  pub got_none : (text : List ℕ) (kept : List X) → Got text kept 0 text
-  got_none text kept = record { seen = []; so_far = refl; all_lawful = tt; ends = λ h. absurd (omega arith); counted = omega arith; front = sym (take_all (length kept) [] (omega arith)) }
+  pub got_none : (room : ℕ) (text : List ℕ) (kept : List X) → kept ≡ [] → Got room text kept text
+  got_none room text kept none = record { seen = []; so_far = refl; all_lawful = tt; ends = λ h. absurd (omega arith); front = none ∙ sym (take_all room [] (omega arith)) }
 
   -- one piece more
   more_text :
@@ -44,37 +56,17 @@ module _ {X : Type 0} (write : X → List ℕ) (lawful : X → Type 0) where
       ∙ sym (append_assoc (spaced write seen) (32 ∷ write x) next)
       ∙ ap (λ l. l ++ next) (flat_map_more (λ y. 32 ∷ write y) [] seen x)
 
-  pub got_kept :
-      (text rest after next : List ℕ) (kept : List X) (count : ℕ) (x : X) → Got text kept count rest → rest ≡ 32 ∷ after
-      → (after ≡ write x ++ next) × lawful x × Ends next → count < length kept → Got text (set kept count x) (count + 1) next
-  got_kept text rest after next kept count x g e t lt =
+  pub got_more :
+      (room : ℕ) (text rest after next : List ℕ) (kept kept' : List X) (x : X) → Got room text kept rest → rest ≡ 32 ∷ after
+      → (after ≡ write x ++ next) × lawful x × Ends next → kept' ≡ take room (kept ++ x ∷ []) → Got room text kept' next
+  got_more room text rest after next kept kept' x g e t is =
       let seen = g.seen in
-      let short : length seen < length kept = omega (arith, g.counted) in
-      let more : take (count + 1) (set kept count x) ≡ take count kept ++ x ∷ [] = take_more_set kept count x lt in
-      let was : take (length kept) seen ≡ seen = take_all (length kept) seen (omega arith) in
-      let is : take (length kept) (seen ++ x ∷ []) ≡ seen ++ x ∷ [] = take_all (length kept) (seen ++ x ∷ []) (omega (arith, length_push seen x)) in
       record {
         seen = seen ++ x ∷ [];
         so_far = more_text text rest after next seen x g.so_far e t.0;
         all_lawful = All-push lawful seen x g.all_lawful t.1;
         ends = λ _. t.2;
-        counted = simp length-set (omega (arith, g.counted, length_push seen x));
-        front = simp length-set (more ∙ ap (λ l. l ++ x ∷ []) (g.front ∙ was) ∙ sym is);
-      }
-
-  pub got_past :
-      (text rest after next : List ℕ) (kept : List X) (count : ℕ) (x : X) → Got text kept count rest → rest ≡ 32 ∷ after
-      → (after ≡ write x ++ next) × lawful x × Ends next → length kept ≤ count → Got text kept count next
-  got_past text rest after next kept count x g e t le =
-      let seen = g.seen in
-      let long : length kept ≤ length seen = omega (arith, g.counted) in
-      record {
-        seen = seen ++ x ∷ [];
-        so_far = more_text text rest after next seen x g.so_far e t.0;
-        all_lawful = All-push lawful seen x g.all_lawful t.1;
-        ends = λ _. t.2;
-        counted = omega (arith, g.counted, length_push seen x);
-        front = g.front ∙ sym (take-append-le (length kept) seen (x ∷ []) long);
+        front = is ∙ ap (λ l. take room (l ++ x ∷ [])) g.front ∙ first_more room seen x;
       }
 
   -- if a text goes on after some pieces, any list of pieces that it writes begins with them
@@ -105,9 +97,9 @@ module _ {X : Type 0} (write : X → List ℕ) (lawful : X → Type 0) where
 
   -- no list has a piece where none stands
   pub no_next :
-      (told : Told write lawful) (text rest after : List ℕ) (kept : List X) (count : ℕ) → Got text kept count rest → rest ≡ 32 ∷ after
+      (told : Told write lawful) (room : ℕ) (text rest after : List ℕ) (kept : List X) → Got room text kept rest → rest ≡ 32 ∷ after
       → ((x : X) (s : List ℕ) → lawful x → Ends s → after ≡ write x ++ s → ⊥) → (xs : List X) → AllByRecursion lawful xs → 1 ≤ length xs → text ≡ listed write xs → ⊥
-  no_next told text rest after kept count g e none xs f some h =
+  no_next told room text rest after kept g e none xs f some h =
       let m = begins told g.seen xs rest g.all_lawful f g.ends (sym g.so_far ∙ h) in
       next_is rest after m.0 e (all_second g.seen m.0 (subst (AllByRecursion lawful) m.1 f)) m.2 none
 
@@ -118,25 +110,24 @@ module _ {X : Type 0} (write : X → List ℕ) (lawful : X → Type 0) where
   over rest n xs ns (inr no-shut) some [] r l = no-shut r
   over rest n xs ns bad some (u ∷ us) r l = ns (ap (λ l. get_or l 0 0) r)
 
-  none_seen : (text rest : List ℕ) (kept : List X) (count : ℕ) → (g : Got text kept count rest) → 1 ≤ length kept → (count ≡ 0) ⊎ (rest ≡ shut → ⊥) → (length g.seen ≡ 0) ⊎ (rest ≡ shut → ⊥)
-  none_seen text rest kept count g room (inl z) = inl (omega (arith, g.counted))
-  none_seen text rest kept count g room (inr no-shut) = inr no-shut
+  none_seen : (room : ℕ) (text rest : List ℕ) (kept : List X) → (g : Got room text kept rest) → 1 ≤ room → (length kept ≡ 0) ⊎ (rest ≡ shut → ⊥) → (length g.seen ≡ 0) ⊎ (rest ≡ shut → ⊥)
+  none_seen room text rest kept g some (inl z) = inl (omega (arith, ap length g.front, length-take room g.seen))
+  none_seen room text rest kept g some (inr no-shut) = inr no-shut
 
   -- nor does one end where there is no space and not the end
   pub no_end_here :
-      (told : Told write lawful) (text rest : List ℕ) (kept : List X) (count : ℕ) → Got text kept count rest → 1 ≤ length kept → (get_or rest 0 0 ≡ 32 → ⊥)
-      → (count ≡ 0) ⊎ (rest ≡ shut → ⊥) → (xs : List X) → AllByRecursion lawful xs → 1 ≤ length xs → text ≡ listed write xs → ⊥
-  no_end_here told text rest kept count g room ns bad xs f some h =
+      (told : Told write lawful) (room : ℕ) (text rest : List ℕ) (kept : List X) → Got room text kept rest → 1 ≤ room → (get_or rest 0 0 ≡ 32 → ⊥)
+      → (length kept ≡ 0) ⊎ (rest ≡ shut → ⊥) → (xs : List X) → AllByRecursion lawful xs → 1 ≤ length xs → text ≡ listed write xs → ⊥
+  no_end_here told room text rest kept g some-room ns bad xs f some h =
       let m = begins told g.seen xs rest g.all_lawful f g.ends (sym g.so_far ∙ h) in
-      over rest (length g.seen) xs ns (none_seen text rest kept count g room bad) some m.0 m.2 (ap length m.1 ∙ length-append g.seen m.0)
+      over rest (length g.seen) xs ns (none_seen room text rest kept g some-room bad) some m.0 m.2 (ap length m.1 ∙ length-append g.seen m.0)
 
-  pub all_read : (text rest : List ℕ) (kept : List X) (count : ℕ) → Got text kept count rest → 0 < count → rest ≡ shut → Kept write lawful text kept count
-  all_read text rest kept count g some e =
+  pub all_read : (room : ℕ) (text rest : List ℕ) (kept : List X) → Got room text kept rest → 0 < length kept → rest ≡ shut → Kept write lawful room text kept
+  all_read room text rest kept g some e =
       record {
         pieces = g.seen;
         text_is = g.so_far ∙ ap (λ l. spaced write g.seen ++ l) e;
         all_lawful = g.all_lawful;
-        some = omega (arith, g.counted);
-        counted = g.counted;
+        some = omega (arith, ap length g.front, length-take room g.seen);
         front = g.front;
       }

@@ -27,13 +27,13 @@ held (place_form first second priors) = place_form first second priors
 
 -- the lists of a line
 abbrev pub taps_in : TapsLine → List ℤ
-taps_in l = take l.count l.taps
+taps_in l = l.taps.items
 
 abbrev pub entries_in : TableLine → List Entry
-entries_in l = take l.count l.entries
+entries_in l = l.entries.items
 
 abbrev pub priors_in : PlaceLine → List Prior
-priors_in l = take l.count l.priors
+priors_in l = l.priors.items
 
 -- what a line says
 abbrev pub said : Line → Form

@@ -1,9 +1,10 @@
 -- What the readers of the pieces of a line answer.
-use Rattle.std.specs.Prelude.{◌≡◌, ℕ, ◌≤◌, min, ◌⊎◌, List, [], ◌∷◌, ◌++◌, length, take, ℤ, Result, MatchResult, ◌≢◌}
+use Rattle.std.specs.Prelude.{◌≡◌, ℕ, ◌≤◌, ◌⊎◌, List, [], ◌∷◌, ◌++◌, length, take, ℤ, Result, MatchResult, ◌≢◌}
 use Rattle.std.specs.Borrow.{Bor}
 use Rattle.std.specs.Fmt.{signed_decimal}
 use Rattle.std.specs.List.{AllByRecursion}
 use Rattle.numerals.specs.Numbers.{SevenDigits}
+use Rattle.prefix.specs.Prefix.{Prefix}
 use Rattle.table.specs.declared.entry.Entry.{Entry}
 use Rattle.table.specs.declared.entry.Entry.TheVariants.{Expected}
 use Rattle.forms.specs.Forms.{entry_text, EntryLawful, listed}
@@ -52,15 +53,14 @@ Told {X} write lawful =
     (x y : X) (r s : List ℕ) → lawful x → lawful y → Ends r → Ends s → write x ++ r ≡ write y ++ s → (x ≡ y) × (r ≡ s)
 
 -- a text is a list of lawful pieces to the end of the line, of which the first are kept, as many as there is room for; or is no such list
-pub record Kept {X : Type 0} (write : X → List ℕ) (lawful : X → Type 0) (text : List ℕ) (kept : List X) (count : ℕ) : Type 0 where
+pub record Kept {X : Type 0} (write : X → List ℕ) (lawful : X → Type 0) (room : ℕ) (text : List ℕ) (kept : List X) : Type 0 where
   pub pieces : List X
   pub text_is : text ≡ listed write pieces
   pub all_lawful : AllByRecursion lawful pieces
   pub some : 1 ≤ length pieces
-  pub counted : count ≡ min (length pieces) (length kept)
-  pub front : take count kept ≡ take (length kept) pieces
+  pub front : kept ≡ take room pieces
 
-abbrev pub TakesList : {X : Type 0} → (X → List ℕ) → (X → Type 0) → List ℕ → List X → Result ℕ NotAForm → Type 0
-TakesList {X} write lawful text kept r =
-    MatchResult r (λ count. Kept write lawful text kept count)
+abbrev pub TakesList : {X : Type 0} → (X → List ℕ) → (X → Type 0) → ℕ → List ℕ → Result (Prefix X) NotAForm → Type 0
+TakesList {X} write lawful room text r =
+    MatchResult r (λ kept. Kept write lawful room text kept.items)
     (λ _. (xs : List X) → AllByRecursion lawful xs → 1 ≤ length xs → text ≢ listed write xs)

@@ -11,7 +11,7 @@ impl TapsLine {
     pub fn taps(&self) -> &[i16]
         ensures { result.now ≡ taps_in self.now }
     {
-        &self.taps[0..self.count]
+        self.taps.as_slice()
     }
 }
 
@@ -20,7 +20,7 @@ impl TableLine {
     pub fn entries(&self) -> &[Entry]
         ensures { result.now ≡ entries_in self.now }
     {
-        &self.entries[0..self.count]
+        self.entries.as_slice()
     }
 }
 
@@ -29,6 +29,6 @@ impl PlaceLine {
     pub fn priors(&self) -> &[Prior]
         ensures { result.now ≡ priors_in self.now }
     {
-        &self.priors[0..self.count]
+        self.priors.as_slice()
     }
 }

@@ -1,18 +1,14 @@
 //! What a line says.
-ghost use Rattle.std.specs.Prelude.{◌≡◌, ◌≤◌, length};
-
 use crate::prior::Prior;
 use channel::Sample;
+use prefix::Prefix;
 use table::Entry;
 
 /// A channel line of the taps kind. Of more than nine taps the first nine are held, and of a tap past 16 bits the nearest number of 16 bits.
 #[derive(Clone, Copy)]
 pub struct TapsLine {
     pub noise: i32,
-    pub(crate) taps: [i16; 9],
-    pub(crate) count: usize,
-    ghost room: { length taps ≡ 9 },
-    ghost few: { count ≤ 9 },
+    pub(crate) taps: Prefix<i16, 9>,
 }
 
 /// A channel line of the table kind. Of more than 257 entries the first 257 are held.
@@ -20,10 +16,7 @@ pub struct TapsLine {
 pub struct TableLine {
     pub noise: i32,
     pub memory: i32,
-    pub(crate) entries: [Entry; 257],
-    pub(crate) count: usize,
-    ghost room: { length entries ≡ 257 },
-    ghost few: { count ≤ 257 },
+    pub(crate) entries: Prefix<Entry, 257>,
 }
 
 /// A channel line of the code kind.
@@ -38,10 +31,7 @@ pub struct CodeLine {
 #[derive(Clone, Copy)]
 pub struct PlaceLine {
     pub sample: Sample,
-    pub(crate) priors: [Prior; 5],
-    pub(crate) count: usize,
-    ghost room: { length priors ≡ 5 },
-    ghost few: { count ≤ 5 },
+    pub(crate) priors: Prefix<Prior, 5>,
 }
 
 /// What a line says.

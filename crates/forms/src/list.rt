@@ -1,27 +1,28 @@
 //! Reading the lists of a line.
-ghost use Rattle.std.specs.Prelude.{◌≡◌, ◌≤◌, length};
+ghost use Rattle.std.specs.Prelude.{◌≤◌};
 ghost use Rattle.forms.specs.Pieces.{TakesList};
 
 use crate::fault::NotAForm;
 use crate::piece::Piece;
+use prefix::Prefix;
 
-// Pieces to the end of a line, each after a space. The first of them are put into the list as far as it has room, and counted.
-pub(crate) fn read_list<P: Piece>(text: &[u8], into: &mut [P]) -> Result<usize, NotAForm>
-    requires { 1 ≤ length into.old }
-    ensures { TakesList P.Piece.written P.Piece.lawful text.now into.new result }
+// Pieces to the end of a line, each after a space. The first of them are held, as many as there is room for.
+pub(crate) fn read_list<P: Piece, const N: usize>(
+    text: &[u8],
+    blank: P,
+) -> Result<Prefix<P, N>, NotAForm>
+    requires { 1 ≤ N }
+    ensures { TakesList P.Piece.written P.Piece.lawful N text.now result }
 {
-    let mut count: usize = 0;
+    let mut pieces = Prefix::repeat(blank, 0);
     let mut rest = text;
     while let [b' ', after @ ..] = rest {
         let (piece, next) = P::read(after)?;
-        if count < into.len() {
-            into[count] = piece;
-            count += 1;
-        }
+        pieces.push(piece);
         rest = next;
     }
-    if count > 0 && rest == b"))\n".as_slice() {
-        Ok(count)
+    if !pieces.as_slice().is_empty() && rest == b"))\n".as_slice() {
+        Ok(pieces)
     } else {
         Err(NotAForm::Unexpected)
     }

@@ -10,7 +10,7 @@ use crate::fault::NotAForm;
 use crate::number::{number_then, read_number};
 use crate::piece::Piece;
 use crate::prior::Prior;
-use crate::word::{end_of_word, expect, word};
+use crate::word::{check_end, expect, word};
 use table::Entry;
 
 impl Piece for i32 {
@@ -61,11 +61,11 @@ impl Piece for Entry {
 
     fn read(text: &[u8]) -> Result<(Entry, &[u8]), NotAForm> {
         if let Ok(rest) = expect(text, b"barred") {
-            end_of_word(rest)?;
+            check_end(rest)?;
             return Ok((Entry::Barred, rest));
         }
         let (entry, rest) = read_expected(text)?;
-        end_of_word(rest)?;
+        check_end(rest)?;
         Ok((entry, rest))
     }
 }

@@ -1,5 +1,5 @@
 //! Reading a line.
-ghost use Rattle.std.specs.Prelude.{◌≡◌, ◌++◌, map, length, MatchResult, ◌≢◌};
+ghost use Rattle.std.specs.Prelude.{◌≡◌, ◌++◌, ◌||◌, ◌==◌, map, length, take, MatchResult, ◌≢◌};
 ghost use Rattle.forms.specs.declared.head.Head.TheVariants.{Taps, Table, Code, Depth, Place};
 ghost use Rattle.forms.specs.Forms.{opening, FormsHaveOneText};
 ghost use Rattle.forms.specs.Lines.{nearest, Opens, ReadsBody, ReadsLine};
@@ -12,6 +12,7 @@ use crate::number::number_then;
 use crate::prior::Prior;
 use crate::word::expect;
 use channel::Sample;
+use prefix::Prefix;
 use table::Entry;
 
 // Which form the line begins as, and what follows its first words.
@@ -50,22 +51,16 @@ fn end(text: &[u8]) -> Result<(), NotAForm>
 fn nearest(number: i32) -> i16
     ensures { result ≡ nearest number }
 {
-    if number < -32768 {
-        return -32768;
-    }
-    if number > 32767 {
-        return 32767;
-    }
-    number as i16
+    number.clamp(-32768, 32767) as i16
 }
 
-// The numbers of 16 bits nearest to nine numbers.
-fn narrow(numbers: &[i32; 9]) -> [i16; 9]
-    ensures value { result ≡ map nearest numbers.now }
+// The numbers of 16 bits nearest to numbers, the first nine of them.
+fn narrow(numbers: &[i32]) -> Prefix<i16, 9>
+    ensures { result.items ≡ take 9 (map nearest numbers.now) }
 {
-    let mut taps = [0; 9];
-    for (i, number) in numbers.iter().enumerate() {
-        taps[i] = nearest(*number);
+    let mut taps = Prefix::repeat(0, 0);
+    for number in numbers {
+        taps.push(nearest(*number));
     }
     taps
 }
@@ -96,12 +91,10 @@ fn read_taps(text: &[u8]) -> Result<Line, NotAForm>
     ensures { ReadsBody Taps text.now result }
 {
     let (noise, at_taps) = number_then(text, b") (taps")?;
-    let mut numbers = [0; 9];
-    let count = read_list(at_taps, &mut numbers)?;
+    let numbers: Prefix<i32, 9> = read_list(at_taps, 0)?;
     Ok(Line::Taps(TapsLine {
         noise,
-        taps: narrow(&numbers),
-        count,
+        taps: narrow(numbers.as_slice()),
     }))
 }
 
@@ -110,14 +103,19 @@ fn read_table(text: &[u8]) -> Result<Line, NotAForm>
 {
     let (noise, at_memory) = number_then(text, b") (memory ")?;
     let (memory, at_entries) = number_then(at_memory, b") (entries")?;
-    let mut entries = [Entry::Barred; 257];
-    let count = read_list(at_entries, &mut entries)?;
+    let entries = read_list(at_entries, Entry::Barred)?;
     Ok(Line::Table(TableLine {
         noise,
         memory,
         entries,
-        count,
     }))
+}
+
+// Whether there are two priors or four.
+fn two_or_four(priors: Prefix<Prior, 5>) -> bool
+    ensures { result ≡ (length priors.items == 2 || length priors.items == 4) }
+{
+    matches!(priors.as_slice().len(), 2 | 4)
 }
 
 fn read_place(text: &[u8]) -> Result<Line, NotAForm>
@@ -125,15 +123,13 @@ fn read_place(text: &[u8]) -> Result<Line, NotAForm>
 {
     let (first, at_second) = number_then(text, b" ")?;
     let (second, at_priors) = number_then(at_second, b") (prior")?;
-    let mut priors = [Prior::Barred; 5];
-    let count = read_list(at_priors, &mut priors)?;
-    if count != 2 && count != 4 {
+    let priors = read_list(at_priors, Prior::Barred)?;
+    if !two_or_four(priors) {
         return Err(NotAForm::Unexpected);
     }
     Ok(Line::Place(PlaceLine {
         sample: Sample { first, second },
         priors,
-        count,
     }))
 }
 

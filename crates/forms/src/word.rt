@@ -1,5 +1,6 @@
 //! Marks and words.
-ghost use Rattle.std.specs.Prelude.{◌≡◌, MatchResult};
+ghost use Rattle.std.specs.Prelude.{◌≡◌, MatchResult, position};
+ghost use Rattle.forms.specs.Words.{end_of_word};
 ghost use Rattle.forms.specs.Pieces.{Follows, CutsWord, Ends};
 
 use crate::fault::NotAForm;
@@ -8,26 +9,26 @@ use crate::fault::NotAForm;
 pub(crate) fn expect<'a>(text: &'a [u8], mark: &[u8]) -> Result<&'a [u8], NotAForm>
     ensures { Follows mark.now text.now result }
 {
-    match text.strip_prefix(mark) {
-        Some(rest) => Ok(rest),
-        None => Err(NotAForm::Unexpected),
-    }
+    text.strip_prefix(mark).ok_or(NotAForm::Unexpected)
+}
+
+// Where the first word ends, if it does: before a space or a closing bracket.
+fn end_of_word(text: &[u8]) -> Option<usize>
+    ensures { result ≡ position end_of_word text.now }
+{
+    text.iter().position(|b| *b == b' ' || *b == b')')
 }
 
 // A word, which ends before a space or a closing bracket, and what follows it.
 pub(crate) fn word(text: &[u8]) -> Result<(&[u8], &[u8]), NotAForm>
     ensures { CutsWord text.now result }
 {
-    for (i, b) in text.iter().enumerate() {
-        if *b == b' ' || *b == b')' {
-            return Ok((&text[0..i], &text[i..]));
-        }
-    }
-    Err(NotAForm::Unexpected)
+    let end = end_of_word(text).ok_or(NotAForm::Unexpected)?;
+    Ok(text.split_at(end))
 }
 
 // Whether a word can end here.
-pub(crate) fn end_of_word(text: &[u8]) -> Result<(), NotAForm>
+pub(crate) fn check_end(text: &[u8]) -> Result<(), NotAForm>
     ensures { MatchResult result (λ _. Ends text.now) (λ _. Ends text.now → ⊥) }
 {
     match text {

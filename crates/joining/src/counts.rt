@@ -11,21 +11,12 @@ impl Count {
     /// The greatest number. A greater sum or product is cut to it.
     pub const MOST: u16 = u16::MAX;
 
-    // The element of a number, cut at the greatest.
-    fn cut(number: u32) -> Count
-        ensures { result ≡ count_of number }
-    {
-        Count {
-            number: number.min(u32::from(Self::MOST)) as u16,
-        }
-    }
-
     /// The element of a number of ways.
     pub fn new(number: u16) -> Count
         ensures element { result ≡ count_of number }
         ensures number { result.number ≡ number }
     {
-        Self::cut(u32::from(number))
+        Count { number }
     }
 
     /// Its number.
@@ -54,11 +45,11 @@ impl Joining for Count {
     }
 
     fn join(self, other: Count) -> Count {
-        Count::cut(u32::from(self.number) + u32::from(other.number))
+        Count::new(self.number.saturating_add(other.number))
     }
 
     fn follow(self, next: Count) -> Count {
-        Count::cut(u32::from(self.number) * u32::from(next.number))
+        Count::new(self.number.saturating_mul(next.number))
     }
 
     fn worth(cost: Cost) -> Count {

@@ -11,21 +11,12 @@ impl LeastCost {
     /// The number that stands for none. A greater sum is cut to it.
     pub const NONE: u32 = u32::MAX;
 
-    // The element of a number, cut at the greatest.
-    fn cut(number: u64) -> LeastCost
-        ensures { result ≡ least_cost number }
-    {
-        LeastCost {
-            number: number.min(u64::from(Self::NONE)) as u32,
-        }
-    }
-
     /// The element of a number of eighths.
     pub fn new(number: u32) -> LeastCost
         ensures element { result ≡ least_cost number }
         ensures number { result.number ≡ number }
     {
-        Self::cut(u64::from(number))
+        LeastCost { number }
     }
 
     /// Its number.
@@ -58,7 +49,7 @@ impl Joining for LeastCost {
     }
 
     fn follow(self, next: LeastCost) -> LeastCost {
-        LeastCost::cut(u64::from(self.number) + u64::from(next.number))
+        LeastCost::new(self.number.saturating_add(next.number))
     }
 
     fn worth(cost: Cost) -> LeastCost {

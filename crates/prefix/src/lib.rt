@@ -54,6 +54,15 @@ impl<T: Copy, const N: usize> Prefix<T, N> {
         }
     }
 
+    /// The first elements of a slice. `blank` fills the room that is left.
+    pub fn of(elements: &[T], blank: T) -> Self
+        ensures { result.items ≡ take N elements.now }
+    {
+        let mut prefix = Self::repeat(blank, 0);
+        prefix.extend_from_slice(elements);
+        prefix
+    }
+
     /// The elements.
     pub fn as_slice(&self) -> &[T]
         ensures { result.now ≡ self.now.items }

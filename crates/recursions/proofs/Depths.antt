@@ -5,7 +5,7 @@ use Rattle.std.proofs.lemmas.Nat.{mul-le}
 use Rattle.std.proofs.lemmas.Bool.{and_parts, and_from, cases_Bool, cases_eq, cases_lt, cond-true, cond-false, leb-true, le-leb, both_ways}
 use Rattle.channel.specs.Meaning.{Meaning, Lawful}
 use Rattle.burst.specs.Histories.{histories}
-use Rattle.burst.proofs.Sizes.{two_symbols, four_symbols}
+use Rattle.channel.proofs.Sizes.{two_symbols, four_symbols}
 use Rattle.recursions.specs.Depths.{states, depth_allowed, allowed_up_to, largest_depth}
 
 -- what an allowed depth keeps

@@ -17,7 +17,7 @@ use Rattle.trellis.proofs.Least.{below_reached}
 use Rattle.burst.specs.Histories.{histories}
 use Rattle.burst.specs.Sequences.{place_at, cost_trellis}
 use Rattle.burst.specs.declared.place.Place.{Place}
-use Rattle.burst.proofs.Sizes.{two_symbols}
+use Rattle.channel.proofs.Sizes.{two_symbols}
 use Rattle.recursions.specs.Depths.{states}
 use Rattle.recursions.specs.Firsts.{same_cost}
 use Rattle.recursions.specs.Forward.{Cell, cell_at, next, via, least_into, leads_to, pair_if, survivor_into, history_into, forward}

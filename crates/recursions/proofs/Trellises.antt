@@ -15,7 +15,7 @@ use Rattle.trellis.proofs.Shifts.{eqb_comm}
 use Rattle.trellis.proofs.Theorems.{fronts_join, answers_meet}
 use Rattle.burst.specs.Sequences.{place_at}
 use Rattle.burst.specs.declared.place.Place.{Place}
-use Rattle.burst.proofs.Sizes.{two_symbols}
+use Rattle.channel.proofs.Sizes.{two_symbols}
 use Rattle.recursions.specs.Depths.{states}
 use Rattle.recursions.specs.Forward.{Cell, cell_at, weight, next, forward}
 use Rattle.recursions.specs.Backward.{cost_at, backward_of}

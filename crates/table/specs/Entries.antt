@@ -1,5 +1,6 @@
 -- The entries of a table: one for each window, barred or two expected numbers from -8191 to 8191.
 use Rattle.std.specs.Prelude.{ℕ, Bool, true, false, ◌&&◌, List, [], ◌∷◌, ℤ, pos, neg_ℤ, slice_index_or}
+use Rattle.std.specs.List.{list_all}
 use Rattle.channel.specs.Samples.{between}
 use Rattle.table.specs.declared.entry.Entry.{Entry}
 use Rattle.table.specs.declared.entry.Entry.TheVariants.{Barred, Expected}
@@ -15,8 +16,7 @@ entry_in_range (Expected first second) = number_in_range first && number_in_rang
 
 -- each entry of the list is in range
 abbrev pub each_in_range : List Entry → Bool
-each_in_range [] = true
-each_in_range (e ∷ es) = entry_in_range e && each_in_range es
+each_in_range entries = list_all entry_in_range entries
 
 -- the entry of a window: the first of the list is that of window 0, the next that of window 1, and so on
 abbrev pub entry_at : List Entry → ℕ → Entry

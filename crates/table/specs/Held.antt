@@ -1,5 +1,5 @@
 -- What a channel of the table kind holds, and so what it means.
-use Rattle.std.specs.Prelude.{◌≡◌, ℕ, List, take, ℤ, pos, Ok, Err, Result}
+use Rattle.std.specs.Prelude.{◌≡◌, ℕ, List, ℤ, pos, Ok, Err, Result}
 use Rattle.channel.specs.declared.refusal.Refusal.{Refusal}
 use Rattle.channel.specs.Meaning.{Meaning}
 use Rattle.table.specs.declared.entry.Entry.{Entry}
@@ -10,7 +10,7 @@ abbrev pub memory_of : Table → ℕ
 memory_of c = c.memory
 
 abbrev pub entries_of : Table → List Entry
-entries_of c = take c.count c.entries
+entries_of c = c.entries.items
 
 abbrev pub noise_of : Table → ℕ
 noise_of c = c.noise.number

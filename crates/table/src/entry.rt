@@ -2,7 +2,7 @@
 ghost use Rattle.std.specs.Prelude.{◌≡◌};
 ghost use Rattle.table.specs.Entries.{entry_in_range};
 
-/// Barred, or the two numbers that a sample has under the window if there is no noise.
+/// Barred, or the two numbers that a sample has under the window if there is no noise: the word that texts and costs have, where an `Option` has `None`.
 #[derive(Clone, Copy, PartialEq, Eq, Debug)]
 pub enum Entry {
     Barred,
@@ -22,10 +22,8 @@ impl Entry {
         match self {
             Entry::Barred => true,
             Entry::Expected { first, second } => {
-                Self::LOWEST <= first
-                    && first <= Self::HIGHEST
-                    && Self::LOWEST <= second
-                    && second <= Self::HIGHEST
+                let range = Self::LOWEST..=Self::HIGHEST;
+                range.contains(&first) && range.contains(&second)
             }
         }
     }

@@ -1,10 +1,11 @@
 //! The table kind: what is expected under each window, and a noise.
 #![tactic(auto)]
 
-ghost use Rattle.std.specs.Prelude.{◌≡◌, ◌^◌, ◌≤◌, true, length, take};
+ghost use Rattle.std.specs.Prelude.{◌≡◌, ◌^◌, ◌≤◌, true, length};
 ghost use Rattle.table.specs.Entries.{each_in_range};
 
 use channel::Noise;
+use prefix::Prefix;
 
 mod entry;
 mod load;
@@ -16,13 +17,11 @@ pub use entry::Entry;
 #[derive(Clone, Copy)]
 pub struct Table {
     memory: usize,
-    count: usize,
-    entries: [Entry; 256],
+    entries: Prefix<Entry, 256>,
     noise: Noise,
     ghost some: { 1 ≤ memory },
     ghost few: { memory ≤ 4 },
-    ghost whole: { count ≡ 4 ^ memory },
-    ghost fits: { count ≤ 256 },
-    ghost room: { length entries ≡ 256 },
-    ghost ranged: { each_in_range (take count entries) ≡ true },
+    ghost whole: { length entries.items ≡ 4 ^ memory },
+    ghost fits: { length entries.items ≤ 256 },
+    ghost ranged: { each_in_range entries.items ≡ true },
 }

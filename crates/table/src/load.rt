@@ -1,5 +1,5 @@
 //! Making and loading a table.
-ghost use Rattle.std.specs.Prelude.{◌≡◌, true, length, pos};
+ghost use Rattle.std.specs.Prelude.{◌≡◌, ◌≤◌, true, length, pos};
 ghost use Rattle.channel.specs.Refusals.{refused_by};
 ghost use Rattle.table.specs.Entries.{each_in_range, blank_entries};
 ghost use Rattle.table.specs.Rule.{allowed_size, load_refusal};
@@ -7,10 +7,17 @@ ghost use Rattle.table.specs.Held.{memory_of, entries_of, noise_of, Stands};
 
 use crate::{Entry, Table};
 use channel::{Noise, Refusal};
+use prefix::Prefix;
 
 impl Table {
     /// The greatest memory.
     pub const LONGEST: i32 = 4;
+
+    // The entry that expects 0 and 0.
+    const SILENT: Entry = Entry::Expected {
+        first: 0,
+        second: 0,
+    };
 
     /// A memory of one symbol, four entries that expect 0 and 0, and the noise 8.
     pub fn blank() -> Table
@@ -20,11 +27,7 @@ impl Table {
     {
         Table {
             memory: 1,
-            count: 4,
-            entries: [Entry::Expected {
-                first: 0,
-                second: 0,
-            }; 256],
+            entries: Prefix::repeat(Self::SILENT, 4),
             noise: Noise::blank(),
         }
     }
@@ -33,7 +36,7 @@ impl Table {
     pub fn entries(&self) -> &[Entry]
         ensures { result.now ≡ entries_of self.now }
     {
-        &self.entries[0..self.count]
+        self.entries.as_slice()
     }
 
     /// The noise held.
@@ -67,10 +70,11 @@ impl Table {
         ensures entries { entries_of self.new ≡ entries.now }
         ensures noise { noise_of self.new ≡ noise.number }
     {
-        self.memory = memory.unsigned_abs() as usize;
-        self.count = entries.len();
-        self.entries[0..entries.len()].copy_from_slice(entries);
-        self.noise = noise;
+        *self = Table {
+            memory: memory.unsigned_abs() as usize,
+            entries: held(entries),
+            noise,
+        };
     }
 }
 
@@ -78,20 +82,23 @@ impl Table {
 fn size_allowed(memory: i32, count: usize) -> bool
     ensures { result ≡ allowed_size memory count }
 {
-    if memory < 1 || Table::LONGEST < memory {
+    if !(1..=Table::LONGEST).contains(&memory) {
         return false;
     }
     count == 4usize.pow(memory.unsigned_abs())
+}
+
+// The entries, which are not too many.
+fn held(entries: &[Entry]) -> Prefix<Entry, 256>
+    requires { length entries.now ≤ 256 }
+    ensures { result.items ≡ entries.now }
+{
+    Prefix::of(entries, Entry::Barred)
 }
 
 // Whether each entry is in its range.
 fn all_in_range(entries: &[Entry]) -> bool
     ensures { result ≡ each_in_range entries.now }
 {
-    for entry in entries {
-        if !entry.in_range() {
-            return false;
-        }
-    }
-    true
+    entries.iter().all(|entry| entry.in_range())
 }

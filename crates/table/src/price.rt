@@ -1,5 +1,5 @@
 //! What a sample costs under a table.
-ghost use Rattle.std.specs.Prelude.{◌≡◌, ◌+◌, ◌<◌};
+ghost use Rattle.std.specs.Prelude.{◌≡◌, ◌+◌, ◌<◌, length};
 ghost use Rattle.channel.specs.Distances.{distance_cost};
 ghost use Rattle.table.specs.declared.entry.Entry.TheVariants.{Expected};
 ghost use Rattle.table.specs.Entries.{entry_at};
@@ -21,10 +21,10 @@ fn cost_of_sum(noise: Noise, a: u64, b: u64) -> u32
 impl Table {
     // The entry of a window.
     fn entry(&self, window: usize) -> Entry
-        requires { window < self.now.count }
+        requires { window < length (entries_of self.now) }
         ensures { result ≡ entry_at (entries_of self.now) window }
     {
-        self.entries[window]
+        self.entries()[window]
     }
 
     // The cost of a sample where these numbers are expected, in eighths.
@@ -63,7 +63,7 @@ impl Channel for Table {
     }
 
     fn cost(&self, sample: Sample, window: usize) -> Cost {
-        if !self.takes(sample) || self.count <= window {
+        if !self.takes(sample) || self.windows() <= window {
             return Cost::Barred;
         }
         match self.entry(window) {

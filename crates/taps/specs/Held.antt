@@ -1,12 +1,12 @@
 -- What a channel of the taps kind holds, and so what it means.
-use Rattle.std.specs.Prelude.{◌≡◌, ℕ, List, take, ℤ, pos, Ok, Err, Result}
+use Rattle.std.specs.Prelude.{◌≡◌, ℕ, List, ℤ, pos, Ok, Err, Result}
 use Rattle.channel.specs.declared.refusal.Refusal.{Refusal}
 use Rattle.channel.specs.Meaning.{Meaning}
 use Rattle.taps.specs.Rule.{taps_meaning}
 use Rattle.taps.specs.declared.Taps.{Taps}
 
 abbrev pub taps_of : Taps → List ℤ
-taps_of c = take c.count c.taps
+taps_of c = c.taps.items
 
 abbrev pub noise_of : Taps → ℕ
 noise_of c = c.noise.number

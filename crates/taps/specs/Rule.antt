@@ -1,5 +1,6 @@
 -- The rule of the taps kind, over the taps and the noise.
 use Rattle.std.specs.Prelude.{ℕ, ◌+◌, Bool, true, false, cond, not, ◌&&◌, List, [], ◌∷◌, length, ℤ, pos, ◌+ℤ◌, neg_ℤ, Option, ◌==◌, nat_le, unsigned_abs}
+use Rattle.std.specs.List.{list_all}
 use Rattle.channel.specs.Refusals.{first_of}
 use Rattle.channel.specs.Samples.{between}
 use Rattle.channel.specs.Windows.{symbol_at}
@@ -12,8 +13,7 @@ tap_in_range tap = between (neg_ℤ (pos 512)) (pos 511) tap
 
 -- each tap of the list is in its range
 abbrev pub each_in_range : List ℤ → Bool
-each_in_range [] = true
-each_in_range (t ∷ ts) = tap_in_range t && each_in_range ts
+each_in_range taps = list_all tap_in_range taps
 
 -- a tap times its symbol, where 0 counts as -1 and 1 as +1
 abbrev pub symbol_times : ℤ → ℕ → ℤ

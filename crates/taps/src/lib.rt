@@ -1,10 +1,11 @@
 //! The taps kind: an echo as a list of whole numbers, and a noise.
 #![tactic(auto)]
 
-ghost use Rattle.std.specs.Prelude.{◌≡◌, ◌≤◌, true, length, take};
+ghost use Rattle.std.specs.Prelude.{◌≡◌, ◌≤◌, true, length};
 ghost use Rattle.taps.specs.Rule.{each_in_range};
 
 use channel::Noise;
+use prefix::Prefix;
 
 mod load;
 mod price;
@@ -12,11 +13,9 @@ mod price;
 /// One to eight taps, each from -512 to 511, and a noise.
 #[derive(Clone, Copy)]
 pub struct Taps {
-    taps: [i16; 8],
-    count: usize,
+    taps: Prefix<i16, 8>,
     noise: Noise,
-    ghost room: { length taps ≡ 8 },
-    ghost some: { 1 ≤ count },
-    ghost few: { count ≤ 8 },
-    ghost ranged: { each_in_range (take count taps) ≡ true },
+    ghost some: { 1 ≤ length taps.items },
+    ghost few: { length taps.items ≤ 8 },
+    ghost ranged: { each_in_range taps.items ≡ true },
 }

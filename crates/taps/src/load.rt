@@ -1,11 +1,12 @@
 //! Making and loading taps.
-ghost use Rattle.std.specs.Prelude.{◌≡◌, ◌≤◌, [], ◌∷◌, length, take, pos};
+ghost use Rattle.std.specs.Prelude.{◌≡◌, ◌≤◌, [], ◌∷◌, length, pos};
 ghost use Rattle.channel.specs.Refusals.{refused_by};
 ghost use Rattle.taps.specs.Rule.{tap_in_range, each_in_range, load_refusal};
 ghost use Rattle.taps.specs.Held.{taps_of, noise_of, Stands};
 
 use crate::Taps;
 use channel::{Noise, Refusal};
+use prefix::Prefix;
 
 impl Taps {
     /// The least tap.
@@ -21,8 +22,7 @@ impl Taps {
         ensures noise { noise_of result ≡ 8 }
     {
         Taps {
-            taps: [0; 8],
-            count: 1,
+            taps: Prefix::repeat(0, 1),
             noise: Noise::blank(),
         }
     }
@@ -31,7 +31,7 @@ impl Taps {
     pub fn taps(&self) -> &[i16]
         ensures { result.now ≡ taps_of self.now }
     {
-        &self.taps[0..self.count]
+        self.taps.as_slice()
     }
 
     /// The noise held.
@@ -55,39 +55,30 @@ impl Taps {
         let noise = Noise::new(noise)?;
         *self = Taps {
             taps: held(taps),
-            count: taps.len(),
             noise,
         };
         Ok(())
     }
 }
 
-// The taps at the front of eight numbers.
-fn held(taps: &[i16]) -> [i16; 8]
+// The taps, which are not too many.
+fn held(taps: &[i16]) -> Prefix<i16, 8>
     requires { length taps.now ≤ 8 }
-    ensures front { take (length taps.now) result ≡ taps.now }
-    ensures room { length result ≡ 8 }
+    ensures { result.items ≡ taps.now }
 {
-    let mut held = [0; 8];
-    held[0..taps.len()].copy_from_slice(taps);
-    held
+    Prefix::of(taps, 0)
 }
 
 // Whether a tap is in its range.
 fn in_range(tap: i16) -> bool
     ensures { result ≡ tap_in_range tap }
 {
-    Taps::LOWEST <= tap && tap <= Taps::HIGHEST
+    (Taps::LOWEST..=Taps::HIGHEST).contains(&tap)
 }
 
 // Whether each tap is in its range.
 fn all_in_range(taps: &[i16]) -> bool
     ensures { result ≡ each_in_range taps.now }
 {
-    for tap in taps {
-        if !in_range(*tap) {
-            return false;
-        }
-    }
-    true
+    taps.iter().all(|tap| in_range(*tap))
 }

@@ -1,6 +1,5 @@
 //! What a sample costs under taps.
 ghost use Rattle.std.specs.Prelude.{◌≡◌, ◌<◌, ◌≤◌, length, unsigned_abs};
-ghost use Rattle.channel.specs.Meaning.{windows};
 ghost use Rattle.channel.specs.Windows.{symbol_at};
 ghost use Rattle.taps.specs.Rule.{symbol_times, expected};
 ghost use Rattle.taps.specs.Echo.{ExpectedIsTheEcho};
@@ -16,7 +15,7 @@ fn times_symbol(tap: i16, symbol: usize) -> i32
     ensures value { result ≡ symbol_times tap symbol }
     ensures small { unsigned_abs result ≤ 32768 }
 {
-    let tap = tap as i32;
+    let tap = i32::from(tap);
     if symbol == 0 { -tap } else { tap }
 }
 
@@ -48,13 +47,6 @@ impl Taps {
         ensures echo { ExpectedIsTheEcho }
     {
         sum_of_taps(self.taps(), window)
-    }
-
-    // The number of windows.
-    fn windows(&self) -> usize
-        ensures { result ≡ windows (meaning_of self.now) }
-    {
-        1 << self.count
     }
 
     // The cost of a sample that is taken, in eighths.

@@ -12,7 +12,7 @@ use Rattle.channel.specs.Samples.{between, in_range}
 use Rattle.channel.specs.declared.sample.Sample.{Sample}
 use Rattle.burst.specs.Places.{priors_allowed}
 use Rattle.burst.specs.declared.place.Place.{Place}
-use Rattle.burst.proofs.Sizes.{short_memory}
+use Rattle.channel.proofs.Sizes.{short_memory}
 use Rattle.recursions.specs.Depths.{depth_allowed}
 use Rattle.receiver.specs.Sound.{Fits}
 use Rattle.numerals.specs.Numbers.{SevenDigits}

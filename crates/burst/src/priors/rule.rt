@@ -1,7 +1,8 @@
 //! Priors as costs, and the rule that they keep.
-ghost use Rattle.std.specs.Prelude.{◌≡◌, ℕ, ◌≤◌};
+ghost use Rattle.std.specs.Prelude.{◌≡◌, ℕ, ◌≤◌, not, ◌==◌, take, drop};
+ghost use Rattle.std.specs.List.{list_all, list_any};
 ghost use Rattle.cost.specs.declared.Cost.TheVariants.{Eighths};
-ghost use Rattle.burst.specs.Places.{prior_at, prior_cost, unused_zero, open_prior, priors_allowed};
+ghost use Rattle.burst.specs.Places.{prior_at, prior_cost, priors_allowed};
 
 use crate::priors::Priors;
 use cost::Cost;
@@ -14,7 +15,7 @@ impl Priors {
     fn at(self, value: usize) -> u16
         ensures { result ≡ prior_at self value }
     {
-        if value < 4 { self.numbers[value] } else { 0 }
+        self.numbers.get(value).copied().unwrap_or(0)
     }
 
     /// The prior of a value as a cost. A value above 3 has the prior 0.
@@ -30,31 +31,27 @@ impl Priors {
         }
     }
 
-    // Whether the value is one of the symbols, or its prior is 0.
-    fn unused_is_zero(self, symbols: usize, value: usize) -> bool
-        ensures { result ≡ unused_zero symbols self value }
-    {
-        value < symbols || self.at(value) == 0
-    }
-
-    // Whether the value is one of the symbols, and is not barred.
-    fn is_open(self, symbols: usize, value: usize) -> bool
-        ensures { result ≡ open_prior symbols self value }
-    {
-        value < symbols && self.at(value) != Self::BARRED
-    }
-
     /// Whether the priors keep their rule for so many symbol values: those past the last are 0, and one at least of the others is not barred.
     pub fn allowed(self, symbols: usize) -> bool
         ensures { result ≡ priors_allowed symbols self }
     {
-        self.unused_is_zero(symbols, 0)
-            && self.unused_is_zero(symbols, 1)
-            && self.unused_is_zero(symbols, 2)
-            && self.unused_is_zero(symbols, 3)
-            && (self.is_open(symbols, 0)
-                || self.is_open(symbols, 1)
-                || self.is_open(symbols, 2)
-                || self.is_open(symbols, 3))
+        unused_are_zero(&self.numbers, symbols) && one_is_open(&self.numbers, symbols)
     }
+}
+
+// Whether the numbers past those of the symbols are 0.
+fn unused_are_zero(numbers: &[u16], symbols: usize) -> bool
+    ensures { result ≡ list_all (λ n. n == 0) (drop symbols numbers.now) }
+{
+    numbers.iter().skip(symbols).all(|number| *number == 0)
+}
+
+// Whether one of the symbols is not barred.
+fn one_is_open(numbers: &[u16], symbols: usize) -> bool
+    ensures { result ≡ list_any (λ n. not (n == 65535)) (take symbols numbers.now) }
+{
+    numbers
+        .iter()
+        .take(symbols)
+        .any(|number| *number != Priors::BARRED)
 }

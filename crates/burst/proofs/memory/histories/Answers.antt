@@ -1,7 +1,8 @@
 use Rattle.std.proofs.Common.{◌≡◌, ℕ, ◌-◌, ◌^◌, sym, ◌∙◌, ap₂, arith}
 use Rattle.channel.specs.Meaning.{Meaning}
 use Rattle.burst.specs.Histories.{histories}
-use Rattle.burst.proofs.Sizes.{short_memory, few_histories}
+use Rattle.channel.proofs.Sizes.{short_memory}
+use Rattle.burst.proofs.Sizes.{few_histories}
 use Rattle.burst.proofs.memory.histories.Goals as goal
 
 power : (m : Meaning) (symbols memory : ℕ) → symbols ≡ m.symbols → memory ≡ m.memory → symbols ^ (memory - 1) ≡ histories m

@@ -1,6 +1,7 @@
-use Rattle.std.proofs.Common.{◌≡◌, map, length, take}
+use Rattle.std.proofs.Common.{◌≡◌, map, take}
 use Rattle.forms.specs.Lines.{nearest}
 use Rattle.forms.proofs.read.narrow.Given as goal
 
-abbrev pub invariant-loop-i : goal.invariant-loop-i
-invariant-loop-i l = (take l.i l.taps ≡ map nearest (take l.i l.numbers)) × (length l.taps ≡ 9)
+-- What was taken so far is in the list, as far as there is room.
+abbrev pub invariant-loop-number : goal.invariant-loop-number
+invariant-loop-number l = l.taps.items ≡ take 9 (map nearest (take l.number-index l.numbers))

@@ -1,21 +1,16 @@
-use Rattle.std.proofs.Common.{inl, inr}
-use Rattle.std.proofs.lemmas.List.{take_all}
-use Rattle.std.proofs.ByRecursion.{All-more}
-use Rattle.forms.specs.Pieces.{OfWord}
-use Rattle.forms.specs.Words.{cut_at, no_cut}
+use Rattle.std.proofs.Common.{sym, ◌∙◌}
+use Rattle.std.proofs.lemmas.Result.{err_from_is_err_and}
+use Rattle.forms.proofs.Options.{some_of_ok, none_of_err}
+use Rattle.forms.specs.Words.{cut_at, no_cut, all_of_word}
 use Rattle.forms.proofs.word.word.Goals as goal
-use Rattle.forms.proofs.word.word.Goals.{then-b-eq32-via-then-b-eq32, then-b-eq32-via-else-b-eq32+then-b-eq41}
 
-pub loop-i-init : goal.loop-i-init
-loop-i-init c = tt
-
-pub returns-then-b-eq32 : goal.returns-then-b-eq32
-returns-then-b-eq32 c =
-    cut_at c.args.text.now c.loop-i.i c.loop-i-test.true c.loop-i.invariant
-    (elim c.then-b-eq32.branch [ then-b-eq32-via-then-b-eq32 w ↦ inl w.if-b-eq32.true | then-b-eq32-via-else-b-eq32+then-b-eq41 w ↦ inr w.if-b-eq41.true ])
-
-pub loop-i-preserved : goal.loop-i-preserved
-loop-i-preserved c = All-more OfWord c.args.text.now c.loop-i.i 0 c.loop-i-test.true c.loop-i.invariant (c.if-b-eq32.false, c.if-b-eq41.false)
+pub returns-in_err-end : goal.returns-in_err-end
+returns-in_err-end c =
+    let p = err_from_is_err_and c.from_residual.result c.from_residual.ensures.1 in
+    let none = none_of_err c.end_of_word.result _ _ (sym c.ok_or.ensures.value ∙ c.in_err-end.was) in
+    rw p.1 (no_cut c.args.text.now (all_of_word c.args.text.now (sym c.end_of_word.ensures ∙ none)))
 
 pub returns : goal.returns
-returns c = no_cut c.args.text.now (simp (take_all c.loop-i.i c.args.text.now c.loop-i-test.false) at c.loop-i.invariant)
+returns c =
+    let some = some_of_ok c.end_of_word.result _ _ (sym c.ok_or.ensures.value ∙ c.in_ok-end.was) in
+    rw (c.split_at.ensures.front, c.split_at.ensures.back) (cut_at c.args.text.now c.in_ok-end.end (sym c.end_of_word.ensures ∙ some))

@@ -1,5 +1,6 @@
 use Rattle.std.proofs.Common.{sym, ◌∙◌, arith}
-use Rattle.burst.proofs.Sizes.{two_symbols, four_symbols, some_histories}
+use Rattle.channel.proofs.Sizes.{two_symbols, four_symbols}
+use Rattle.burst.proofs.Sizes.{some_histories}
 use Rattle.sweep.proofs.sizes.sizes_of.Goals as goal
 
 pub returns : goal.returns

@@ -1,5 +1,4 @@
 use Rattle.std.proofs.Common.{◌≡◌, ℕ, ◌^◌, ◌≤◌, true, List, ◌++◌, length, take, ℤ, pos, nat_abs, sym, refl, ap, ◌∙◌, arith, w32, SFits, to_z, of_z, rules}
-use Rattle.std.proofs.lemmas.List.{take_at, places}
 use Rattle.std.proofs.lemmas.Int.{to_z-of_z}
 use Rattle.table.specs.declared.entry.Entry.{Entry}
 use Rattle.table.specs.Entries.{each_in_range}
@@ -14,11 +13,8 @@ fit memory count is = let ok = allowed memory count is in omega (arith, ok.whole
 same : (memory : ℤ) (r : ℕ) → SFits w32 memory → r ≡ nat_abs (to_z w32 (of_z w32 memory)) → r ≡ nat_abs memory
 same memory r fits is = is ∙ ap nat_abs (to_z-of_z w32 memory fits)
 
-pub slice_bounds-copy_from_slice-end : goal.slice_bounds-copy_from_slice-end
-slice_bounds-copy_from_slice-end c = let few = fit c.args.memory (length c.args.entries.now) c.requires.size in search rules
-
-front : (written entries rest : List Entry) → written ≡ entries → take (length entries) (written ++ rest) ≡ entries
-front written entries rest is = take_at written rest (length entries) (ap length is) ∙ is
+pub held-requires : goal.held-requires
+held-requires c = fit c.args.memory (length c.args.entries.now) c.requires.size
 
 pub invariant_of-self : goal.invariant_of-self
 invariant_of-self c =
@@ -28,10 +24,9 @@ invariant_of-self c =
     record {
       some = omega arith;
       few = omega arith;
-      whole = ok.whole ∙ ap (λ (m : ℕ). 4 ^ m) (sym is);
-      fits = few;
-      room = search (rules, places);
-      ranged = ap each_in_range (front _ c.args.entries.now _ c.copy_from_slice.ensures.after) ∙ c.requires.ranged;
+      whole = ap length c.held.ensures ∙ ok.whole ∙ ap (λ (m : ℕ). 4 ^ m) (sym is);
+      fits = omega (arith, few, ap length c.held.ensures);
+      ranged = ap each_in_range c.held.ensures ∙ c.requires.ranged;
     }
 
 pub returns : goal.returns
@@ -40,6 +35,6 @@ returns c =
     let is = same c.args.memory c.unsigned_abs.result c.ranges.memory c.unsigned_abs.ensures.value in
     record {
       memory = ap pos is ∙ ok.sign;
-      entries = front _ c.args.entries.now _ c.copy_from_slice.ensures.after;
+      entries = c.held.ensures;
       noise = refl;
     }

@@ -1,5 +1,6 @@
 use Rattle.std.proofs.Common.{ℕ, ◌^◌, sym, ◌∙◌, ap₂, arith}
-use Rattle.burst.proofs.Sizes.{short_memory, few_histories}
+use Rattle.channel.proofs.Sizes.{short_memory}
+use Rattle.burst.proofs.Sizes.{few_histories}
 use Rattle.recursions.proofs.Depths.{states_grow}
 use Rattle.columns.proofs.shape.Shape.count.Goals as goal
 

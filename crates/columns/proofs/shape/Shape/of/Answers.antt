@@ -1,5 +1,6 @@
 use Rattle.std.proofs.Common.{◌*◌, ◌≤◌, sym, ◌∙◌, mul-le-mul, arith}
-use Rattle.burst.proofs.Sizes.{two_symbols, four_symbols, some_histories}
+use Rattle.channel.proofs.Sizes.{two_symbols, four_symbols}
+use Rattle.burst.proofs.Sizes.{some_histories}
 use Rattle.recursions.proofs.Depths.{allowed_keeps, states_within_histories}
 use Rattle.recursions.proofs.Trellises.{some_states}
 use Rattle.columns.proofs.shape.Shape.of.Goals as goal
