@@ -157,9 +157,8 @@ some_entry (suc (suc (suc (suc (suc m))))) count few e = absurd (omega arith)
 
 pub table_load : (c : Channel) → Loads table_rule (of_table c)
 table_load c =
-    let long : length (entries_of c) ≡ c.count = simp length-take (omega arith) in
-    let size : allowed_size (pos (memory_of c)) (length (entries_of c)) ≡ true = allowed (memory_of c) (length (entries_of c)) (omega arith) (omega arith) (long ∙ c.whole) in
+    let size : allowed_size (pos (memory_of c)) (length (entries_of c)) ≡ true = allowed (memory_of c) (length (entries_of c)) c.some c.few c.whole in
     record {
-      lawful = (omega arith, omega arith, all_small (entries_of c) c.ranged, simp long (some_entry (memory_of c) c.count c.few c.whole));
+      lawful = (omega arith, omega arith, all_small (entries_of c) c.ranged, some_entry (memory_of c) (length (entries_of c)) c.few c.whole);
       taken = ap (option_map (λ k. (layers.Channel, k))) (loading (allowed_size (pos (memory_of c)) (length (entries_of c))) (each_in_range (entries_of c)) (in_noise_range (pos (noise_of c))) size c.ranged (loud (noise_of c) (omega arith) (omega arith)));
     }

@@ -129,8 +129,8 @@ loud n some most = grind (arith, ints)
 
 pub taps_load : (c : Channel) → Loads taps_rule (of_taps c)
 taps_load c =
-    let some : 1 ≤ length (taps_of c) = simp length-take (omega arith) in
-    let few : length (taps_of c) ≤ 8 = simp length-take (omega arith) in
+    let some : 1 ≤ length (taps_of c) = c.some in
+    let few : length (taps_of c) ≤ 8 = c.few in
     record {
       lawful = (omega arith, all_small (taps_of c) c.ranged, some);
       taken = ap (option_map (λ k. (layers.Channel, k))) (loading (length (taps_of c)) (each_in_range (taps_of c)) (in_noise_range (pos (noise_of c))) some few c.ranged (loud (noise_of c) (omega arith) (omega arith)));
