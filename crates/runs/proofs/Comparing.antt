@@ -19,7 +19,7 @@ use Rattle.runs.specs.Obeying.{Hears}
 use Rattle.runs.specs.Runs.{ends, given, answers_to, bytes_after}
 use Rattle.runs.specs.declared.call.Call.{Call}
 use Rattle.runs.specs.declared.call.Call.TheVariants as calls
-use Rattle.runs.proofs.Obeys.{best_again}
+use Rattle.runs.proofs.Held.{best_again}
 use Rattle.runs.proofs.Renewing.{unworked, given_is}
 
 -- a burst in which s stands is settled, and then given calls

@@ -1,4 +1,4 @@
-mod Obeys
+mod Held
 mod Running
 mod Renewing
 mod Comparing

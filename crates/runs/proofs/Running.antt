@@ -6,7 +6,7 @@ use Rattle.burst.specs.declared.place.Place.{Place}
 use Rattle.receiver.specs.Standing.{Standing, standing, new_standing}
 use Rattle.receiver.specs.declared.inner.Burst.{Burst}
 use Rattle.runs.specs.Calls.{Reply, after, answer, written}
-use Rattle.runs.specs.Obeying.{Obeyed, Obeys, Ran, Hears}
+use Rattle.runs.specs.Obeying.{Obeyed, Ran, Hears}
 use Rattle.runs.specs.Runs.{ends, answers_to, bytes_after, given}
 use Rattle.runs.specs.declared.call.Call.{Call}
 use Rattle.runs.specs.declared.call.Call.TheVariants.{Add, Depth}
@@ -38,22 +38,21 @@ ran_next m calls i call is lt b b₁ b₂ ran next =
     subst (λ (xs : List Call). Ran m xs b b₂) (sym more) (ran_more m (take i calls) call b b₁ b₂ ran next)
 
 -- the next place of a list
-pub added_next : (m : Meaning) (places : List Place) (i : ℕ) (p : Place) → p ≡ get_or places i p → i < length places → (b b₁ b₂ : Burst) (told : Reply)
-    → Ran m (map Add (take i places)) b b₁ → Obeys m (Add p) b₁ b₂ told → Ran m (map Add (take (i + 1) places)) b b₂
-added_next m places i p is lt b b₁ b₂ told ran obeys =
-    let obeyed = obeys [] in
+pub added_next : (m : Meaning) (places : List Place) (i : ℕ) (p : Place) → p ≡ get_or places i p → i < length places → (b b₁ b₂ : Burst)
+    → Ran m (map Add (take i places)) b b₁ → Ran m (Add p ∷ []) b₁ b₂ → Ran m (map Add (take (i + 1) places)) b b₂
+added_next m places i p is lt b b₁ b₂ ran next =
     let more : map Add (take (i + 1) places) ≡ map Add (take i places) ++ (Add p ∷ []) =
     ap (map Add) (take_more places i p lt) ∙ map_push Add (take i places) (get_or places i p) ∙ ap (λ (x : Place). map Add (take i places) ++ (Add x ∷ [])) (sym is) in
     subst (λ (xs : List Call). Ran m xs b b₂) (sym more)
-    (ran_more m (map Add (take i places)) (Add p) b b₁ b₂ ran obeyed.stands)
+    (ran_more m (map Add (take i places)) (Add p) b b₁ b₂ ran next)
 
 -- a new burst that is given a depth and places
-pub given_by : (m : Meaning) (s : Standing) (places : List Place) (b₁ b₂ b₃ : Burst) (told : Reply) → standing b₁ ≡ new_standing m → Obeys m (Depth s.depth) b₁ b₂ told
+pub given_by : (m : Meaning) (s : Standing) (places : List Place) (b₁ b₂ b₃ : Burst) → standing b₁ ≡ new_standing m → Ran m (Depth s.depth ∷ []) b₁ b₂
     → places ≡ s.places → Ran m (map Add places) b₂ b₃ → standing b₃ ≡ given m s
-given_by m s places b₁ b₂ b₃ told new deep are all =
+given_by m s places b₁ b₂ b₃ new deep are all =
     all
     ∙ ap (λ (ps : List Place). ends m (map Add ps) (standing b₂)) are
-    ∙ ap (ends m (map Add s.places)) ((deep []).stands ∙ ap (after m (Depth s.depth)) new)
+    ∙ ap (ends m (map Add s.places)) (deep ∙ ap (after m (Depth s.depth)) new)
 
 -- the answers written down so far and one more
 pub said_more : (part : Heard → Reply) (heard : List Heard) (i : ℕ) (h : Heard) → i < length heard

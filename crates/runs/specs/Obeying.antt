@@ -13,10 +13,6 @@ pub record Obeyed (m : Meaning) (call : Call) (before after' : Burst) (bytes byt
   pub answers : told ≡ answer m call (standing before) bytes
   pub writes : bytes' ≡ written m call (standing before) bytes
 
--- the same of a call that writes no bytes, whatever these are
-abbrev pub Obeys : Meaning → Call → Burst → Burst → Reply → Type 0
-Obeys m call before after' told = (bytes : List ℕ) → Obeyed m call before after' bytes bytes told
-
 -- What stands after all of the calls.
 abbrev pub Ran : Meaning → List Call → Burst → Burst → Type 0
 Ran m calls before after' = standing after' ≡ ends m calls (standing before)

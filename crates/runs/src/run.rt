@@ -6,7 +6,7 @@ ghost use Rattle.runs.specs.Runs.{given};
 ghost use Rattle.runs.specs.declared.call.Call.TheVariants as calls;
 
 use crate::call::Call;
-use crate::obey::{add, deepen, obey};
+use crate::obey::obey;
 use burst::Place;
 use channel::Channel;
 use receiver::Receiver;
@@ -36,7 +36,7 @@ fn add_all<C: Channel>(receiver: &mut Receiver<C>, places: &[Place])
     ensures ran { Ran (C.meaning receiver.old.channel) (map calls.Add places.now) receiver.old.burst receiver.new.burst }
 {
     for place in places {
-        let _ = add(receiver, *place);
+        ask(receiver, Call::Add(*place));
     }
 }
 
@@ -46,7 +46,7 @@ pub(crate) fn renewed<C: Channel, D: Channel>(from: &Receiver<C>, channel: D) ->
     ensures stands { standing result.burst ≡ given (D.meaning channel) (standing from.now.burst) }
 {
     let mut receiver = Receiver::new(channel);
-    let _ = deepen(&mut receiver, from.depth());
+    ask(&mut receiver, Call::Depth(from.depth()));
     add_all(&mut receiver, from.places());
     receiver
 }

@@ -5,7 +5,7 @@ use Rattle.receiver.specs.Standing.{Standing, standing, new_standing, settled}
 use Rattle.runs.specs.Law.{one_said, other_said}
 use Rattle.runs.specs.Runs.{ends, given}
 use Rattle.runs.proofs.Comparing.{settled_stands, goes_on, alike_by, always_of_sequences}
-use Rattle.runs.proofs.Obeys.{places_held}
+use Rattle.runs.proofs.Held.{places_held}
 use Rattle.runs.proofs.law.compare.Goals as goal
 
 pub returns : goal.returns

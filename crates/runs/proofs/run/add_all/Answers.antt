@@ -7,8 +7,8 @@ loop-place-preserved g c =
     let m = g.C.Channel.meaning c.args.receiver.now.channel in
     let b = c.args.receiver.now.burst in
     let inv = c.loop-place.invariant in
-    let said = simp inv.0 at c.add.ensures.obeyed in (
-      c.add.ensures.channel ∙ inv.0,
+    let said = simp inv.0 at c.ask.ensures.ran in (
+      c.ask.ensures.channel ∙ inv.0,
       added_next m c.args.places.now c.loop-place.place-index c.place-item.result c.place-item.is c.loop-place-test.true b
-          c.loop-place.receiver.burst c.add.new.receiver.burst c.add.result inv.1 said,
+          c.loop-place.receiver.burst c.ask.new.receiver.burst inv.1 said,
     )
