@@ -1,6 +1,6 @@
 -- How many histories a lawful meaning has.
-use Rattle.std.proofs.Common.{◌≡◌, ℕ, suc, ◌-◌, ◌*◌, ◌^◌, ◌<◌, ◌≤◌, ◌⊎◌, sym, ap, ◌∙◌, inl, inr, mul-le-mul_right, arith}
-use native.Mathlib.Nat.{pow-succ', pow-le-pow_left, one-le-pow}
+use Rattle.std.proofs.Common.{◌≡◌, ℕ, suc, ◌-◌, ◌*◌, ◌^◌, ◌≤◌, ap, ◌∙◌, mul-le-mul_right, arith}
+use native.Mathlib.Nat.{pow-succ', one-le-pow}
 use Rattle.channel.specs.Meaning.{Meaning, Lawful, windows}
 use Rattle.channel.proofs.Sizes.{two_symbols}
 use Rattle.burst.specs.Histories.{histories}

@@ -1,5 +1,5 @@
 -- The ones that mask and window have in common are the symbols that the mask picks.
-use Rattle.std.proofs.Common.{◌≡◌, ℕ, zero, suc, ◌+◌, ◌*◌, ◌/◌, ◌%◌, ◌<◌, min, cond, eqb, List, [], ◌∷◌, sym, refl, ap, ◌∙◌, arith}
+use Rattle.std.proofs.Common.{◌≡◌, ℕ, ◌+◌, ◌*◌, ◌/◌, ◌%◌, ◌<◌, min, cond, eqb, List, [], ◌∷◌, sym, refl, ap, ◌∙◌, arith}
 use lib.Bits.{bit_and, and_step, and_zero_r}
 use lib.Count.{ones, ones_step}
 use Rattle.std.specs.List.{AllByRecursion}

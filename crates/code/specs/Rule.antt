@@ -1,7 +1,6 @@
 -- The rule of the code kind, over the memory and the two masks.
-use Rattle.std.specs.Prelude.{ℕ, ◌+◌, ◌-◌, ◌%◌, ◌^◌, Bool, true, false, cond, not, ◌&&◌, List, [], ◌∷◌, ℤ, pos, negsuc, neg_ℤ, Option, ◌==◌, bit_and, count_ones, unsigned_abs}
+use Rattle.std.specs.Prelude.{ℕ, ◌+◌, ◌-◌, ◌%◌, ◌^◌, Bool, true, false, cond, not, ◌&&◌, [], ◌∷◌, ℤ, pos, negsuc, neg_ℤ, Option, ◌==◌, bit_and, count_ones, unsigned_abs}
 use Rattle.channel.specs.Refusals.{first_of}
-use Rattle.channel.specs.declared.sample.Sample.{Sample}
 use Rattle.channel.specs.Samples.{between}
 use Rattle.channel.specs.Meaning.{Meaning}
 

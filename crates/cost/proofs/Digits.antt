@@ -1,5 +1,5 @@
 -- The thousandths of eighths, filled up with zeros to three digits, and the text of a lean that they are part of.
-use Rattle.std.proofs.Common.{◌≡◌, ℕ, zero, suc, ◌+◌, ◌*◌, ◌<◌, ◌%◌, List, ◌∷◌, ◌++◌, ℤ, nat_abs, refl, ap, ap₂, ◌∙◌, arith, codes}
+use Rattle.std.proofs.Common.{◌≡◌, ℕ, zero, suc, ◌*◌, ◌<◌, ◌%◌, List, ◌∷◌, ◌++◌, ℤ, nat_abs, refl, ap, ap₂, ◌∙◌, arith}
 use Rattle.std.specs.Prelude.{decimal}
 use Rattle.std.specs.Fmt.{format_spec, styled_decimal, digits, padded_integral, char_count}
 use Rattle.cost.specs.Leans.{three_digits, sign, whole, thousandths, lean_text}

@@ -1,5 +1,5 @@
 -- The rule of the taps kind, over the taps and the noise.
-use Rattle.std.specs.Prelude.{ℕ, ◌+◌, Bool, true, false, cond, not, ◌&&◌, List, [], ◌∷◌, length, ℤ, pos, ◌+ℤ◌, neg_ℤ, Option, ◌==◌, nat_le, unsigned_abs}
+use Rattle.std.specs.Prelude.{ℕ, ◌+◌, Bool, false, cond, not, ◌&&◌, List, [], ◌∷◌, length, ℤ, pos, ◌+ℤ◌, neg_ℤ, Option, ◌==◌, nat_le, unsigned_abs}
 use Rattle.std.specs.List.{list_all}
 use Rattle.channel.specs.Refusals.{first_of}
 use Rattle.channel.specs.Samples.{between}

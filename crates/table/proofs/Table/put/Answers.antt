@@ -1,6 +1,5 @@
-use Rattle.std.proofs.Common.{◌≡◌, ℕ, ◌^◌, ◌≤◌, true, List, ◌++◌, length, take, ℤ, pos, nat_abs, sym, refl, ap, ◌∙◌, arith, w32, SFits, to_z, of_z, rules}
+use Rattle.std.proofs.Common.{◌≡◌, ℕ, ◌^◌, ◌≤◌, true, length, ℤ, pos, nat_abs, sym, refl, ap, ◌∙◌, arith, w32, SFits, to_z, of_z}
 use Rattle.std.proofs.lemmas.Int.{to_z-of_z}
-use Rattle.table.specs.declared.entry.Entry.{Entry}
 use Rattle.table.specs.Entries.{each_in_range}
 use Rattle.table.specs.Rule.{allowed_size}
 use Rattle.table.proofs.Sizes.{few_windows, allowed}

@@ -1,4 +1,4 @@
-use Rattle.std.proofs.Common.{◌≡◌, ◌∙◌, ap, sym, subst, arith, w64, SFits, to_z, of_z, nat_abs, rules}
+use Rattle.std.proofs.Common.{◌≡◌, ◌∙◌, ap, sym, subst, w64, SFits, nat_abs, rules}
 use Rattle.std.proofs.lemmas.Int.{to_z-of_z}
 use Rattle.std.specs.Fmt.{HasWritten, styled_decimal}
 use Rattle.cost.specs.Leans.{sign, whole, thousandths, lean_text}
@@ -13,5 +13,5 @@ returns-after-eighths-lt0-clause-writes g c plain ok =
     let d = c.in_decimal-whole.ensures in
     let sign_is : c.if-eighths-lt0.sign.now ≡ sign z = search rules in
     let text = lean_is z c.if-eighths-lt0.sign.now _ c.in_decimal-whole.result.0 c.in_decimal-whole.result.1 sign_is
-      (d.whole ∙ ap whole abs) (d.rest ∙ ap thousandths abs) (ap (λ s. styled_decimal s c.in_decimal-whole.result.1) c.laid_out.ensures) in
+    (d.whole ∙ ap whole abs) (d.rest ∙ ap thousandths abs) (ap (λ s. styled_decimal s c.in_decimal-whole.result.1) c.laid_out.ensures) in
     subst (λ t. HasWritten g.W.Write.write_str_gives c.args.f.now t c.write.new.self) (text ∙ ap lean_text (sym c.in-Eighths.is)) (c.write.ensures.writes plain ok)
