@@ -19,14 +19,6 @@ fn cost_of_sum(noise: Noise, a: u64, b: u64) -> u32
 }
 
 impl Table {
-    // The entry of a window.
-    fn entry(&self, window: usize) -> Entry
-        requires { window < length (entries_of self.now) }
-        ensures { result ≡ entry_at (entries_of self.now) window }
-    {
-        self.entries()[window]
-    }
-
     // The cost of a sample where these numbers are expected, in eighths.
     fn price(&self, sample: Sample, first: i32, second: i32) -> u32
         ensures { result ≡ distance_cost (noise_of self.now) (distance sample (Expected first second)) }
@@ -63,12 +55,14 @@ impl Channel for Table {
     }
 
     fn cost(&self, sample: Sample, window: usize) -> Cost {
-        if !self.takes(sample) || self.windows() <= window {
+        if !self.takes(sample) {
             return Cost::Barred;
         }
-        match self.entry(window) {
-            Entry::Barred => Cost::Barred,
-            Entry::Expected { first, second } => Cost::Eighths(self.price(sample, first, second)),
+        match self.entries().get(window) {
+            Some(Entry::Expected { first, second }) => {
+                Cost::Eighths(self.price(sample, *first, *second))
+            }
+            _ => Cost::Barred,
         }
     }
 }
