@@ -1,3 +1,5 @@
-mod Full
+mod Elements
 mod Indices
+mod Joined
 mod Own
+mod Sound
