@@ -3,3 +3,4 @@ mod Indices
 mod Joined
 mod Own
 mod Sound
+mod Front

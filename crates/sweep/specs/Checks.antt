@@ -7,7 +7,7 @@ use Rattle.burst.specs.declared.place.Place.{Place}
 use Rattle.burst.specs.Places.{priors_allowed}
 use Rattle.burst.specs.Histories.{histories}
 
--- each place passes the test
+-- each place passes the test (under a name of its own, by which crates above cite it)
 abbrev pub each_passes : (Place → Bool) → List Place → Bool
 each_passes test places = list_all test places
 

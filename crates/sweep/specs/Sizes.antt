@@ -1,5 +1,5 @@
--- The sizes of a sweep: how many symbols, histories and places it has, and how much room the lists have.
-use Rattle.std.specs.Prelude.{◌≡◌, ℕ, ◌+◌, ◌*◌, ◌≤◌}
+-- The sizes of a sweep: how many symbols, histories and places it has.
+use Rattle.std.specs.Prelude.{◌≡◌, ℕ, ◌≤◌}
 use Rattle.channel.specs.Meaning.{Meaning}
 use Rattle.burst.specs.Histories.{histories}
 
@@ -12,9 +12,3 @@ pub record Sized (m : Meaning) (symbols states places : ℕ) : Type 0 where
   pub some_states : 1 ≤ states
   pub few_states : states ≤ 128
   pub few_places : places ≤ 128
-
--- What a sweep that is not refused can rest on: room in the lists.
-pub record Roomy (symbols states places forward backward answers : ℕ) : Type 0 where
-  pub forward_room : (places + 1) * states ≤ forward
-  pub backward_room : (places + 1) * states ≤ backward
-  pub answers_room : places * symbols ≤ answers

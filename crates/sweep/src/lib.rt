@@ -42,7 +42,7 @@ pub fn sweep<C: Channel, J: Joining>(
         backward: backward.len(),
         answers: answers.len(),
     };
-    let trellis = FullTrellis::new(channel, places, lengths)?;
+    let trellis = FullTrellis::checked(channel, places, lengths)?;
     trellis.fill_forward(forward);
     trellis.fill_backward(backward);
     trellis.fill_answers(forward, backward, answers);

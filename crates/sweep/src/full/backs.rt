@@ -1,7 +1,7 @@
 //! Backward elements: what leads on from a history.
-ghost use Rattle.std.specs.Prelude.{◌≡◌, ◌+◌, ◌*◌, ◌/◌, ◌%◌, ◌<◌, length};
-ghost use Rattle.trellis.specs.Lists.{Column, Holds, Filled};
-ghost use Rattle.sweep.specs.Burst.{symbols, states, HasColumns, trellis_of, backward_at};
+ghost use Rattle.std.specs.Prelude.{◌≡◌, ◌+◌, ◌*◌, ◌/◌, ◌%◌, ◌<◌, ◌≤◌, length};
+ghost use Rattle.trellis.specs.Lists.{Filled};
+ghost use Rattle.sweep.specs.Burst.{symbols, states, column_elements, trellis_of, backward_at, HasBackwardColumn, HasBackwardElements};
 ghost use Rattle.sweep.specs.Ways.{way_on};
 
 use crate::full::FullTrellis;
@@ -15,8 +15,7 @@ impl<'a, C: Channel> FullTrellis<'a, C> {
         requires column { column < length self.now.places }
         requires state { state < states C.meaning self.now }
         requires symbol { symbol < symbols C.meaning self.now }
-        requires room { HasColumns C.meaning self.now (length backward.now) }
-        requires after { Column J.operations.none backward.now (states C.meaning self.now) (column + 1) (backward_at J.operations J.worth_of C.meaning self.now (column + 1)) }
+        requires after { HasBackwardColumn J.operations J.worth_of C.meaning self.now backward.now (column + 1) }
         ensures { result ≡ way_on (trellis_of J.operations J.worth_of C.meaning self.now) (length self.now.places) column state symbol }
     {
         let step = self.weight::<J>(column, state, symbol);
@@ -28,8 +27,7 @@ impl<'a, C: Channel> FullTrellis<'a, C> {
     fn lead_on<J: Joining>(&self, backward: &[J], column: usize, state: usize) -> J
         requires column { column < length self.now.places }
         requires state { state < states C.meaning self.now }
-        requires room { HasColumns C.meaning self.now (length backward.now) }
-        requires after { Column J.operations.none backward.now (states C.meaning self.now) (column + 1) (backward_at J.operations J.worth_of C.meaning self.now (column + 1)) }
+        requires after { HasBackwardColumn J.operations J.worth_of C.meaning self.now backward.now (column + 1) }
         ensures { result ≡ backward_at J.operations J.worth_of C.meaning self.now column state }
     {
         join_below(
@@ -40,9 +38,8 @@ impl<'a, C: Channel> FullTrellis<'a, C> {
 
     // The element at an index of the list, from those after it.
     fn backward_element<J: Joining>(&self, backward: &[J], index: usize) -> J
-        requires index { index < (length self.now.places + 1) * states C.meaning self.now }
-        requires room { HasColumns C.meaning self.now (length backward.now) }
-        requires after { Holds J.operations.none backward.now (states C.meaning self.now) (index + 1) ((length self.now.places + 1) * states C.meaning self.now) (backward_at J.operations J.worth_of C.meaning self.now) }
+        requires index { index < column_elements C.meaning self.now }
+        requires after { HasBackwardElements J.operations J.worth_of C.meaning self.now backward.now (index + 1) (column_elements C.meaning self.now) }
         ensures { result ≡ backward_at J.operations J.worth_of C.meaning self.now (index / states C.meaning self.now) (index % states C.meaning self.now) }
     {
         let column = index / self.states;
@@ -55,9 +52,10 @@ impl<'a, C: Channel> FullTrellis<'a, C> {
 
     /// Fills the backward columns, from the last to the first.
     pub(crate) fn fill_backward<J: Joining>(&self, backward: &mut [J])
-        requires room { HasColumns C.meaning self.now (length backward.old) }
+        requires room { column_elements C.meaning self.now ≤ length backward.old }
         ensures { Filled J.operations.none backward.old backward.new (length self.now.places + 1) (states C.meaning self.now) (backward_at J.operations J.worth_of C.meaning self.now) }
     {
+        // By index: an element is worked from others of its own list, here from those after it.
         for index in (0..self.column_elements()).rev() {
             backward[index] = self.backward_element(backward, index);
         }

@@ -1,9 +1,8 @@
 //! The checks of a sweep.
 ghost use Rattle.std.specs.Prelude.{◌≡◌, length, IfOk};
 ghost use Rattle.burst.specs.Refusals.{refused_by};
-ghost use Rattle.sweep.specs.Burst.{burst_of, symbols, states};
+ghost use Rattle.sweep.specs.Burst.{burst_of, symbols, states, HasRoom};
 ghost use Rattle.sweep.specs.Checks.{each_taken, each_allowed, lists_have_room, sweep_refusal};
-ghost use Rattle.sweep.specs.Sizes.{Roomy};
 
 use crate::full::FullTrellis;
 use burst::{Place, Refusal};
@@ -39,19 +38,20 @@ impl<'a, C: Channel> FullTrellis<'a, C> {
     fn have_room(&self, lengths: Lengths) -> bool
         ensures { result ≡ lists_have_room (symbols C.meaning self.now) (states C.meaning self.now) (length self.now.places) lengths.forward lengths.backward lengths.answers }
     {
-        self.column_elements() <= lengths.forward
-            && self.column_elements() <= lengths.backward
+        let columns = self.column_elements();
+        columns <= lengths.forward
+            && columns <= lengths.backward
             && self.answer_elements() <= lengths.answers
     }
 
     /// The trellis of a burst that can be swept into lists of these lengths, or the refusal with the smallest number.
-    pub(crate) fn new(
+    pub(crate) fn checked(
         channel: &'a C,
         places: &'a [Place],
         lengths: Lengths,
     ) -> Result<Self, Refusal>
         ensures made { IfOk result (λ t. t ≡ burst_of channel.now places.now) }
-        ensures room { IfOk result (λ t. Roomy (symbols C.meaning t) (states C.meaning t) (length t.places) lengths.forward lengths.backward lengths.answers) }
+        ensures room { IfOk result (λ t. HasRoom C.meaning t lengths.forward lengths.backward lengths.answers) }
         ensures refusal { refused_by result ≡ sweep_refusal (C.meaning channel.now) places.now lengths.forward lengths.backward lengths.answers }
     {
         if MOST_PLACES < places.len() {
@@ -63,7 +63,7 @@ impl<'a, C: Channel> FullTrellis<'a, C> {
         if !all_allowed(C::alphabet(), places) {
             return Err(Refusal::BadPriors);
         }
-        let trellis = FullTrellis::of(channel, places);
+        let trellis = FullTrellis::new(channel, places);
         if !trellis.have_room(lengths) {
             return Err(Refusal::TooShort);
         }

@@ -1,7 +1,7 @@
 //! Forward elements: what leads to a history.
-ghost use Rattle.std.specs.Prelude.{◌≡◌, ◌+◌, ◌*◌, ◌/◌, ◌%◌, ◌<◌, length, if◌then◌else◌, nat_eq};
-ghost use Rattle.trellis.specs.Lists.{Column, Holds, Filled};
-ghost use Rattle.sweep.specs.Burst.{symbols, states, HasColumns, trellis_of, forward_at};
+ghost use Rattle.std.specs.Prelude.{◌≡◌, ◌+◌, ◌*◌, ◌/◌, ◌%◌, ◌<◌, ◌≤◌, length, if◌then◌else◌, nat_eq};
+ghost use Rattle.trellis.specs.Lists.{Filled};
+ghost use Rattle.sweep.specs.Burst.{symbols, states, column_elements, trellis_of, forward_at, HasForwardColumn, HasForwardElements};
 ghost use Rattle.sweep.specs.Ways.{way_into};
 
 use crate::full::FullTrellis;
@@ -22,8 +22,7 @@ impl<'a, C: Channel> FullTrellis<'a, C> {
         requires column { column < length self.now.places }
         requires state { state < states C.meaning self.now }
         requires oldest { oldest < symbols C.meaning self.now }
-        requires room { HasColumns C.meaning self.now (length forward.now) }
-        requires before { Column J.operations.none forward.now (states C.meaning self.now) column (forward_at J.operations J.worth_of C.meaning self.now column) }
+        requires before { HasForwardColumn J.operations J.worth_of C.meaning self.now forward.now column }
         ensures { result ≡ way_into (trellis_of J.operations J.worth_of C.meaning self.now) column state oldest }
     {
         let pair = state + self.states * oldest;
@@ -36,8 +35,7 @@ impl<'a, C: Channel> FullTrellis<'a, C> {
     fn gather<J: Joining>(&self, forward: &[J], column: usize, state: usize) -> J
         requires column { column < length self.now.places }
         requires state { state < states C.meaning self.now }
-        requires room { HasColumns C.meaning self.now (length forward.now) }
-        requires before { Column J.operations.none forward.now (states C.meaning self.now) column (forward_at J.operations J.worth_of C.meaning self.now column) }
+        requires before { HasForwardColumn J.operations J.worth_of C.meaning self.now forward.now column }
         ensures { result ≡ forward_at J.operations J.worth_of C.meaning self.now (column + 1) state }
     {
         join_below(
@@ -48,9 +46,8 @@ impl<'a, C: Channel> FullTrellis<'a, C> {
 
     // The element at an index of the list, from those before it.
     fn forward_element<J: Joining>(&self, forward: &[J], index: usize) -> J
-        requires index { index < (length self.now.places + 1) * states C.meaning self.now }
-        requires room { HasColumns C.meaning self.now (length forward.now) }
-        requires before { Holds J.operations.none forward.now (states C.meaning self.now) 0 index (forward_at J.operations J.worth_of C.meaning self.now) }
+        requires index { index < column_elements C.meaning self.now }
+        requires before { HasForwardElements J.operations J.worth_of C.meaning self.now forward.now 0 index }
         ensures { result ≡ forward_at J.operations J.worth_of C.meaning self.now (index / states C.meaning self.now) (index % states C.meaning self.now) }
     {
         let column = index / self.states;
@@ -63,9 +60,10 @@ impl<'a, C: Channel> FullTrellis<'a, C> {
 
     /// Fills the forward columns, from the first to the last.
     pub(crate) fn fill_forward<J: Joining>(&self, forward: &mut [J])
-        requires room { HasColumns C.meaning self.now (length forward.old) }
+        requires room { column_elements C.meaning self.now ≤ length forward.old }
         ensures { Filled J.operations.none forward.old forward.new (length self.now.places + 1) (states C.meaning self.now) (forward_at J.operations J.worth_of C.meaning self.now) }
     {
+        // By index, and apart from the backward list: an element is worked from others of its own list, here from those before it.
         for index in 0..self.column_elements() {
             forward[index] = self.forward_element(forward, index);
         }

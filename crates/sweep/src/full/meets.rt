@@ -1,7 +1,7 @@
 //! Answers: where what leads to a place meets what leads on from it.
 ghost use Rattle.std.specs.Prelude.{◌≡◌, ◌+◌, ◌*◌, ◌<◌, ◌≤◌, length};
-ghost use Rattle.trellis.specs.Lists.{Columns, Filled};
-ghost use Rattle.sweep.specs.Burst.{symbols, states, HasColumns, trellis_of, forward_at, backward_at, answer_at};
+ghost use Rattle.trellis.specs.Lists.{Filled};
+ghost use Rattle.sweep.specs.Burst.{symbols, states, answer_elements, trellis_of, answer_at, HasForwardColumns, HasBackwardColumns};
 ghost use Rattle.sweep.specs.Own.{OwnWindows};
 ghost use Rattle.sweep.specs.Ways.{way_through};
 
@@ -23,10 +23,8 @@ impl<'a, C: Channel> FullTrellis<'a, C> {
         requires place { place < length self.now.places }
         requires symbol { symbol < symbols C.meaning self.now }
         requires state { state < states C.meaning self.now }
-        requires forward_room { HasColumns C.meaning self.now (length forward.now) }
-        requires backward_room { HasColumns C.meaning self.now (length backward.now) }
-        requires fronts { Columns J.operations.none forward.now (states C.meaning self.now) (length self.now.places + 1) (forward_at J.operations J.worth_of C.meaning self.now) }
-        requires backs { Columns J.operations.none backward.now (states C.meaning self.now) (length self.now.places + 1) (backward_at J.operations J.worth_of C.meaning self.now) }
+        requires fronts { HasForwardColumns J.operations J.worth_of C.meaning self.now forward.now }
+        requires backs { HasBackwardColumns J.operations J.worth_of C.meaning self.now backward.now }
         ensures { result ≡ way_through (trellis_of J.operations J.worth_of C.meaning self.now) (length self.now.places) place symbol state }
     {
         let before = self.element(forward, place, state);
@@ -41,10 +39,8 @@ impl<'a, C: Channel> FullTrellis<'a, C> {
     fn meet<J: Joining>(&self, forward: &[J], backward: &[J], place: usize, symbol: usize) -> J
         requires place { place < length self.now.places }
         requires symbol { symbol < symbols C.meaning self.now }
-        requires forward_room { HasColumns C.meaning self.now (length forward.now) }
-        requires backward_room { HasColumns C.meaning self.now (length backward.now) }
-        requires fronts { Columns J.operations.none forward.now (states C.meaning self.now) (length self.now.places + 1) (forward_at J.operations J.worth_of C.meaning self.now) }
-        requires backs { Columns J.operations.none backward.now (states C.meaning self.now) (length self.now.places + 1) (backward_at J.operations J.worth_of C.meaning self.now) }
+        requires fronts { HasForwardColumns J.operations J.worth_of C.meaning self.now forward.now }
+        requires backs { HasBackwardColumns J.operations J.worth_of C.meaning self.now backward.now }
         ensures { result ≡ answer_at J.operations J.worth_of C.meaning self.now place symbol }
     {
         join_below(
@@ -54,19 +50,19 @@ impl<'a, C: Channel> FullTrellis<'a, C> {
     }
 
     /// Fills the answers, place by place.
+    #[tactic(auto, using(crate::proofs::Front::front_filled))]
     pub(crate) fn fill_answers<J: Joining>(&self, forward: &[J], backward: &[J], answers: &mut [J])
-        requires room { length self.now.places * symbols C.meaning self.now ≤ length answers.old }
-        requires forward_room { HasColumns C.meaning self.now (length forward.now) }
-        requires backward_room { HasColumns C.meaning self.now (length backward.now) }
-        requires fronts { Columns J.operations.none forward.now (states C.meaning self.now) (length self.now.places + 1) (forward_at J.operations J.worth_of C.meaning self.now) }
-        requires backs { Columns J.operations.none backward.now (states C.meaning self.now) (length self.now.places + 1) (backward_at J.operations J.worth_of C.meaning self.now) }
+        requires room { answer_elements C.meaning self.now ≤ length answers.old }
+        requires fronts { HasForwardColumns J.operations J.worth_of C.meaning self.now forward.now }
+        requires backs { HasBackwardColumns J.operations J.worth_of C.meaning self.now backward.now }
         ensures filled { Filled J.operations.none answers.old answers.new (length self.now.places) (symbols C.meaning self.now) (answer_at J.operations J.worth_of C.meaning self.now) }
         ensures own { OwnWindows J.operations J.worth_of (C.meaning self.now.channel) self.now.places }
     {
-        for index in 0..self.answer_elements() {
+        let count = self.answer_elements();
+        for (index, answer) in answers[..count].iter_mut().enumerate() {
             let place = index / self.symbols;
             let symbol = index % self.symbols;
-            answers[index] = self.meet(forward, backward, place, symbol);
+            *answer = self.meet(forward, backward, place, symbol);
         }
     }
 }

@@ -1,6 +1,6 @@
 //! One step of the trellis: where it leads, and what it is worth; and the elements of lists of columns.
 ghost use Rattle.std.specs.Prelude.{◌≡◌, ◌+◌, ◌*◌, ◌%◌, ◌<◌, ◌≤◌, length, slice_index_or};
-ghost use Rattle.sweep.specs.Burst.{symbols, states, HasColumns, trellis_of};
+ghost use Rattle.sweep.specs.Burst.{symbols, states, column_elements, trellis_of};
 
 use crate::full::FullTrellis;
 use burst::Place;
@@ -44,7 +44,7 @@ impl<'a, C: Channel> FullTrellis<'a, C> {
     pub(crate) fn element<J: Joining>(&self, list: &[J], column: usize, state: usize) -> J
         requires column { column ≤ length self.now.places }
         requires state { state < states C.meaning self.now }
-        requires room { HasColumns C.meaning self.now (length list.now) }
+        requires room { column_elements C.meaning self.now ≤ length list.now }
         ensures { result ≡ slice_index_or list.now (column * states C.meaning self.now + state) J.operations.none }
     {
         list[column * self.states + state]

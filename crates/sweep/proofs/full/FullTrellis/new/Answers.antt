@@ -1,6 +1,6 @@
 use Rattle.std.proofs.Common.{sym, ◌∙◌, arith}
 use Rattle.burst.proofs.Sizes.{two_symbols, four_symbols, some_histories}
-use Rattle.sweep.proofs.full.FullTrellis.of.Goals as goal
+use Rattle.sweep.proofs.full.FullTrellis.new.Goals as goal
 
 pub invariant_of-result : goal.invariant_of-result
 invariant_of-result g c =
