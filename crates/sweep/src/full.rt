@@ -15,6 +15,7 @@ mod sizes;
 mod steps;
 
 pub(crate) use checks::Lengths;
+pub(crate) use meets::Columns;
 
 /// The trellis of all histories of a burst: a channel and at most 128 places, with the numbers of symbols and histories.
 #[derive(Drop)]

@@ -9,7 +9,7 @@ ghost use Rattle.sweep.specs.Own.{OwnWindows};
 
 use burst::{Place, Refusal};
 use channel::Channel;
-use full::{FullTrellis, Lengths};
+use full::{Columns, FullTrellis, Lengths};
 use joining::Joining;
 
 mod full;
@@ -45,6 +45,11 @@ pub fn sweep<C: Channel, J: Joining>(
     let trellis = FullTrellis::checked(channel, places, lengths)?;
     trellis.fill_forward(forward);
     trellis.fill_backward(backward);
-    trellis.fill_answers(forward, backward, answers);
+    let columns = Columns {
+        trellis: &trellis,
+        forward,
+        backward,
+    };
+    columns.fill_answers(answers);
     Ok(())
 }

@@ -10,59 +10,58 @@ use crate::joins::join_below;
 use channel::Channel;
 use joining::Joining;
 
-impl<'a, C: Channel> FullTrellis<'a, C> {
+/// The trellis of a burst, with the lists of its forward and its backward columns.
+#[derive(Drop)]
+pub(crate) struct Columns<'l, C: Channel, J: Joining> {
+    pub trellis: &'l FullTrellis<'l, C>,
+    pub forward: &'l [J],
+    pub backward: &'l [J],
+    ghost fronts: { HasForwardColumns J.operations J.worth_of C.meaning trellis.now forward.now },
+    ghost backs: { HasBackwardColumns J.operations J.worth_of C.meaning trellis.now backward.now },
+}
+
+impl<'l, C: Channel, J: Joining> Columns<'l, C, J> {
     // One way by a symbol at a place, through a history: what leads to the history, the step, and all that leads on.
-    fn way_through<J: Joining>(
-        &self,
-        forward: &[J],
-        backward: &[J],
-        place: usize,
-        symbol: usize,
-        state: usize,
-    ) -> J
-        requires place { place < length self.now.places }
-        requires symbol { symbol < symbols C.meaning self.now }
-        requires state { state < states C.meaning self.now }
-        requires fronts { HasForwardColumns J.operations J.worth_of C.meaning self.now forward.now }
-        requires backs { HasBackwardColumns J.operations J.worth_of C.meaning self.now backward.now }
-        ensures { result ≡ way_through (trellis_of J.operations J.worth_of C.meaning self.now) (length self.now.places) place symbol state }
+    fn way_through(&self, place: usize, symbol: usize, state: usize) -> J
+        requires place { place < length self.now.trellis.now.places }
+        requires symbol { symbol < symbols C.meaning self.now.trellis.now }
+        requires state { state < states C.meaning self.now.trellis.now }
+        ensures { result ≡ way_through (trellis_of J.operations J.worth_of C.meaning self.now.trellis.now) (length self.now.trellis.now.places) place symbol state }
     {
-        let before = self.element(forward, place, state);
-        let step = self.weight(place, state, symbol);
-        let next = self.next_state(state, symbol);
-        let after = self.element(backward, place + 1, next);
+        let trellis = self.trellis;
+        let before = trellis.element(self.forward, place, state);
+        let step = trellis.weight(place, state, symbol);
+        let next = trellis.next_state(state, symbol);
+        let after = trellis.element(self.backward, place + 1, next);
         before.follow(step).follow(after)
     }
 
     // The answer for a symbol at a place, over all histories.
-    #[tactic(auto, using(crate::proofs::Elements::answer_joined))]
-    fn meet<J: Joining>(&self, forward: &[J], backward: &[J], place: usize, symbol: usize) -> J
-        requires place { place < length self.now.places }
-        requires symbol { symbol < symbols C.meaning self.now }
-        requires fronts { HasForwardColumns J.operations J.worth_of C.meaning self.now forward.now }
-        requires backs { HasBackwardColumns J.operations J.worth_of C.meaning self.now backward.now }
-        ensures { result ≡ answer_at J.operations J.worth_of C.meaning self.now place symbol }
+    fn meet(&self, place: usize, symbol: usize) -> J
+        requires place { place < length self.now.trellis.now.places }
+        requires symbol { symbol < symbols C.meaning self.now.trellis.now }
+        ensures { result ≡ answer_at J.operations J.worth_of C.meaning self.now.trellis.now place symbol }
     {
+        let trellis = self.trellis;
         join_below(
-            self.states,
-            |state| self.way_through(forward, backward, place, symbol, state),
+            trellis.states,
+            |state| self.way_through(place, symbol, state),
         )
     }
 
     /// Fills the answers, place by place.
     #[tactic(auto, using(crate::proofs::Front::front_filled))]
-    pub(crate) fn fill_answers<J: Joining>(&self, forward: &[J], backward: &[J], answers: &mut [J])
-        requires room { answer_elements C.meaning self.now ≤ length answers.old }
-        requires fronts { HasForwardColumns J.operations J.worth_of C.meaning self.now forward.now }
-        requires backs { HasBackwardColumns J.operations J.worth_of C.meaning self.now backward.now }
-        ensures filled { Filled J.operations.none answers.old answers.new (length self.now.places) (symbols C.meaning self.now) (answer_at J.operations J.worth_of C.meaning self.now) }
-        ensures own { OwnWindows J.operations J.worth_of (C.meaning self.now.channel) self.now.places }
+    pub(crate) fn fill_answers(&self, answers: &mut [J])
+        requires room { answer_elements C.meaning self.now.trellis.now ≤ length answers.old }
+        ensures filled { Filled J.operations.none answers.old answers.new (length self.now.trellis.now.places) (symbols C.meaning self.now.trellis.now) (answer_at J.operations J.worth_of C.meaning self.now.trellis.now) }
+        ensures own { OwnWindows J.operations J.worth_of (C.meaning self.now.trellis.now.channel) self.now.trellis.now.places }
     {
-        let count = self.answer_elements();
+        let trellis = self.trellis;
+        let count = trellis.answer_elements();
         for (index, answer) in answers[..count].iter_mut().enumerate() {
-            let place = index / self.symbols;
-            let symbol = index % self.symbols;
-            *answer = self.meet(forward, backward, place, symbol);
+            let place = index / trellis.symbols;
+            let symbol = index % trellis.symbols;
+            *answer = self.meet(place, symbol);
         }
     }
 }
