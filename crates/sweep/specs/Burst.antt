@@ -36,7 +36,7 @@ module _ {C : Type 0} (meaning : C → Meaning) (b : Burst C) where
   answer_elements = length b.places * symbols
 
   -- What a sweep that is not refused can rest on: room in lists of these lengths.
-  pub record HasRoom (forward backward answers : ℕ) : Type 0 where
+  pub record Roomy (forward backward answers : ℕ) : Type 0 where
     pub forward_room : column_elements ≤ forward
     pub backward_room : column_elements ≤ backward
     pub answers_room : answer_elements ≤ answers

@@ -55,7 +55,7 @@ impl<'a, C: Channel> FullTrellis<'a, C> {
         requires room { column_elements C.meaning self.now ≤ length backward.old }
         ensures { Filled J.operations.none backward.old backward.new (length self.now.places + 1) (states C.meaning self.now) (backward_at J.operations J.worth_of C.meaning self.now) }
     {
-        // By index: an element is worked from others of its own list, here from those after it.
+        // By index: an element is worked from those after it in the list.
         for index in (0..self.column_elements()).rev() {
             backward[index] = self.backward_element(backward, index);
         }

@@ -1,7 +1,7 @@
 //! The checks of a sweep.
 ghost use Rattle.std.specs.Prelude.{◌≡◌, length, IfOk};
 ghost use Rattle.burst.specs.Refusals.{refused_by};
-ghost use Rattle.sweep.specs.Burst.{burst_of, symbols, states, HasRoom};
+ghost use Rattle.sweep.specs.Burst.{burst_of, symbols, states, Roomy};
 ghost use Rattle.sweep.specs.Checks.{each_taken, each_allowed, lists_have_room, sweep_refusal};
 
 use crate::full::FullTrellis;
@@ -51,7 +51,7 @@ impl<'a, C: Channel> FullTrellis<'a, C> {
         lengths: Lengths,
     ) -> Result<Self, Refusal>
         ensures made { IfOk result (λ t. t ≡ burst_of channel.now places.now) }
-        ensures room { IfOk result (λ t. HasRoom C.meaning t lengths.forward lengths.backward lengths.answers) }
+        ensures room { IfOk result (λ t. Roomy C.meaning t lengths.forward lengths.backward lengths.answers) }
         ensures refusal { refused_by result ≡ sweep_refusal (C.meaning channel.now) places.now lengths.forward lengths.backward lengths.answers }
     {
         if MOST_PLACES < places.len() {

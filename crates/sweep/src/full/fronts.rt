@@ -63,7 +63,7 @@ impl<'a, C: Channel> FullTrellis<'a, C> {
         requires room { column_elements C.meaning self.now ≤ length forward.old }
         ensures { Filled J.operations.none forward.old forward.new (length self.now.places + 1) (states C.meaning self.now) (forward_at J.operations J.worth_of C.meaning self.now) }
     {
-        // By index, and apart from the backward list: an element is worked from others of its own list, here from those before it.
+        // By index: an element is worked from those before it in the list. One function for both lists would need its order as an argument, and be longer.
         for index in 0..self.column_elements() {
             forward[index] = self.forward_element(forward, index);
         }
