@@ -1,3 +1,6 @@
-mod Full
+mod Elements
 mod Indices
+mod Joined
 mod Own
+mod Sound
+mod Front

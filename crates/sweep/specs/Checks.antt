@@ -1,15 +1,15 @@
 -- When a sweep is refused: too many places, samples not taken, priors that break their rule, lists too short.
-use Rattle.std.specs.Prelude.{ℕ, ◌+◌, ◌*◌, Bool, true, not, ◌&&◌, List, [], ◌∷◌, length, Option, nat_le, nat_lt}
+use Rattle.std.specs.Prelude.{ℕ, ◌+◌, ◌*◌, Bool, not, ◌&&◌, List, [], ◌∷◌, length, Option, nat_le, nat_lt}
+use Rattle.std.specs.List.{list_all}
 use Rattle.channel.specs.Meaning.{Meaning, taken}
 use Rattle.channel.specs.Refusals.{first_of}
 use Rattle.burst.specs.declared.place.Place.{Place}
 use Rattle.burst.specs.Places.{priors_allowed}
 use Rattle.burst.specs.Histories.{histories}
 
--- each place passes the test
+-- each place passes the test (under a name of its own, by which crates above cite it)
 abbrev pub each_passes : (Place → Bool) → List Place → Bool
-each_passes test [] = true
-each_passes test (p ∷ later) = test p && each_passes test later
+each_passes test places = list_all test places
 
 -- the channel takes each sample
 abbrev pub each_taken : Meaning → List Place → Bool

@@ -9,15 +9,12 @@ ghost use Rattle.sweep.specs.Own.{OwnWindows};
 
 use burst::{Place, Refusal};
 use channel::Channel;
+use full::{Columns, FullTrellis, Lengths};
 use joining::Joining;
 
-mod backs;
-mod checks;
-mod fronts;
-mod meets;
+mod full;
+mod joins;
 mod pins;
-mod sizes;
-mod steps;
 
 pub use pins::pin;
 
@@ -40,15 +37,19 @@ pub fn sweep<C: Channel, J: Joining>(
     ensures answers { AnswersStand J.operations J.worth_of (C.meaning channel.now) places.now result answers.old answers.new }
     ensures own { OnOk result (OwnWindows J.operations J.worth_of (C.meaning channel.now) places.now) }
 {
-    let sizes = sizes::sizes_of(channel);
-    let lengths = checks::Lengths {
+    let lengths = Lengths {
         forward: forward.len(),
         backward: backward.len(),
         answers: answers.len(),
     };
-    checks::check(channel, places, sizes, lengths)?;
-    fronts::fill_forward(channel, places, sizes, forward);
-    backs::fill_backward(channel, places, sizes, backward);
-    meets::fill_answers(channel, places, sizes, forward, backward, answers);
+    let trellis = FullTrellis::checked(channel, places, lengths)?;
+    trellis.fill_forward(forward);
+    trellis.fill_backward(backward);
+    let columns = Columns {
+        trellis: &trellis,
+        forward,
+        backward,
+    };
+    columns.fill_answers(answers);
     Ok(())
 }

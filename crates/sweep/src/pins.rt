@@ -6,6 +6,7 @@ ghost use Rattle.sweep.specs.Pins.{priors_pinned, place_pinned, barred_at, pin_r
 
 use burst::{Place, Priors, Refusal};
 use channel::Channel;
+use std::array;
 
 // A prior once a value is pinned: barred if it is that of another symbol.
 fn pinned_prior(symbols: usize, pinned: usize, value: usize, prior: u16) -> u16
@@ -19,16 +20,11 @@ fn pinned_prior(symbols: usize, pinned: usize, value: usize, prior: u16) -> u16
 }
 
 // The priors once a value is pinned.
-fn pinned_priors(symbols: usize, value: usize, priors: Priors) -> Priors
-    ensures { result ≡ priors_pinned symbols value priors }
+fn pinned_priors(symbols: usize, pinned: usize, priors: Priors) -> Priors
+    ensures { result ≡ priors_pinned symbols pinned priors }
 {
     let numbers = priors.numbers();
-    Priors::new([
-        pinned_prior(symbols, value, 0, numbers[0]),
-        pinned_prior(symbols, value, 1, numbers[1]),
-        pinned_prior(symbols, value, 2, numbers[2]),
-        pinned_prior(symbols, value, 3, numbers[3]),
-    ])
+    Priors::new(array::from_fn(|value| pinned_prior(symbols, pinned, value, numbers[value])))
 }
 
 // The record of a place once a value is pinned.
@@ -48,14 +44,6 @@ fn is_barred_at(symbols: usize, value: usize, priors: Priors) -> bool
     value < symbols && priors.cost(value).is_barred()
 }
 
-// The record of a place.
-fn place_of(places: &[Place], place: usize) -> Place
-    requires { place < length places.now }
-    ensures { result ≡ place_at places.now place }
-{
-    places[place]
-}
-
 // Refuses a pinning that cannot be, for the reason with the smallest number.
 fn check_pin(symbols: usize, places: &[Place], place: usize, value: usize) -> Result<(), Refusal>
     ensures within { OnOk result (place < length places.now) }
@@ -64,7 +52,7 @@ fn check_pin(symbols: usize, places: &[Place], place: usize, value: usize) -> Re
     if places.len() <= place {
         return Err(Refusal::NoPlace);
     }
-    let priors = place_of(places, place).priors;
+    let priors = places[place].priors;
     if !priors.allowed(symbols) || is_barred_at(symbols, value, priors) {
         return Err(Refusal::BadPriors);
     }
@@ -82,6 +70,6 @@ pub fn pin<C: Channel>(places: &mut [Place], place: usize, value: usize) -> Resu
 {
     let alphabet = C::alphabet();
     check_pin(alphabet, places, place, value)?;
-    places[place] = pinned_place(alphabet, value, place_of(places, place));
+    places[place] = pinned_place(alphabet, value, places[place]);
     Ok(())
 }
