@@ -2,7 +2,9 @@
 use Rattle.std.proofs.Common.{◌≡◌, ℕ, zero, suc, ◌<◌, ◌≤◌, Bool, true, List, [], ◌∷◌, length, get_or, refl, inl, inr, arith}
 use Rattle.std.proofs.lemmas.Bool.{and_parts, and_from}
 use Rattle.columns.specs.Numbers.{within, Within}
-use Rattle.columns.specs.Cells.{every, CostsWithin}
+use Rattle.columns.specs.Cells.{entry_at, every, CostsWithin, CellsWithin}
+use Rattle.columns.specs.declared.column.Cell.{Cell}
+use Rattle.columns.specs.declared.column.Column.{Column}
 use Rattle.columns.proofs.Numbers.{within_low, within_more, within_cases}
 
 module _ {X : Type 0} (passes : X → Bool) (d : X) where
@@ -35,3 +37,10 @@ costs_more b d (n ∷ ns) more all =
 pub cost_fits : (b : ℕ) (costs : List ℕ) → b ≤ 4294967295 → CostsWithin b costs → (s : ℕ) → get_or costs s 0 ≤ 4294967295
 cost_fits b costs low all s =
     elim (within_cases b (get_or costs s 0) (cost_within b costs all s)) [ inl fits ↦ omega arith | inr top ↦ omega arith ]
+
+-- the same of the cells of a column
+pub cell_within : (b : ℕ) (column : Column) → CellsWithin b column → (s : ℕ) → Within b (entry_at column s).cost
+cell_within b column all s = every_at (λ (c : Cell). within b c.cost) _ (within_low b 0 (omega arith)) column.cells all s
+
+pub sixteen_cells_within : (b : ℕ) (column : Column) → length column.cells ≡ 16 → ((s : ℕ) → s < 16 → Within b (entry_at column s).cost) → CellsWithin b column
+sixteen_cells_within b column long each = every_from (λ (c : Cell). within b c.cost) _ column.cells (λ s lt. each s (omega arith))
