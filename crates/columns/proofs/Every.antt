@@ -27,20 +27,20 @@ cost_within b costs all s = every_at (within b) 0 (within_low b 0 (omega arith))
 pub sixteen_within : (b : ℕ) (costs : List ℕ) → length costs ≡ 16 → ((s : ℕ) → s < 16 → Within b (get_or costs s 0)) → CostsWithin b costs
 sixteen_within b costs long each = every_from (within b) 0 costs (λ s lt. each s (omega arith))
 
--- what is within a bound is within a greater one
-pub costs_more : (b d : ℕ) (costs : List ℕ) → b ≤ d → CostsWithin b costs → CostsWithin d costs
-costs_more b d [] more all = refl
-costs_more b d (n ∷ ns) more all =
-    let parts = and_parts (within b n) (every (within b) ns) all in
-    and_from (within d n) (every (within d) ns) (within_more b d n more parts.0) (costs_more b d ns more parts.1)
-
-pub cost_fits : (b : ℕ) (costs : List ℕ) → b ≤ 4294967295 → CostsWithin b costs → (s : ℕ) → get_or costs s 0 ≤ 4294967295
-cost_fits b costs low all s =
-    elim (within_cases b (get_or costs s 0) (cost_within b costs all s)) [ inl fits ↦ omega arith | inr top ↦ omega arith ]
-
 -- the same of the cells of a column
 pub cell_within : (b : ℕ) (column : Column) → CellsWithin b column → (s : ℕ) → Within b (entry_at column s).cost
 cell_within b column all s = every_at (λ (c : Cell). within b c.cost) _ (within_low b 0 (omega arith)) column.cells all s
 
 pub sixteen_cells_within : (b : ℕ) (column : Column) → length column.cells ≡ 16 → ((s : ℕ) → s < 16 → Within b (entry_at column s).cost) → CellsWithin b column
 sixteen_cells_within b column long each = every_from (λ (c : Cell). within b c.cost) _ column.cells (λ s lt. each s (omega arith))
+
+-- what is within a bound is within a greater one
+pub cells_more : (b d : ℕ) (column : Column) → b ≤ d → CellsWithin b column → CellsWithin d column
+cells_more b d column more all = every_from (λ (c : Cell). within d c.cost) _ column.cells (λ s lt. within_more b d _ more (cell_within b column all s))
+
+pub costs_more : (b d : ℕ) (costs : List ℕ) → b ≤ d → CostsWithin b costs → CostsWithin d costs
+costs_more b d costs more all = every_from (within d) 0 costs (λ s lt. within_more b d _ more (cost_within b costs all s))
+
+pub cell_fits : (b : ℕ) (column : Column) → b ≤ 4294967295 → CellsWithin b column → (s : ℕ) → (entry_at column s).cost ≤ 4294967295
+cell_fits b column low all s =
+    elim (within_cases b (entry_at column s).cost (cell_within b column all s)) [ inl fits ↦ omega arith | inr top ↦ omega arith ]

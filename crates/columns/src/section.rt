@@ -8,6 +8,7 @@ use burst::Place;
 use channel::Channel;
 
 /// A section of the trellis: a place, and the forward column before it.
+#[derive(Drop)]
 pub struct Section<'a, C: Channel> {
     pub channel: &'a C,
     pub shape: Shape,

@@ -2,8 +2,7 @@
 ghost use Rattle.std.specs.Prelude.{◌≡◌, ◌<◌, ◌≤◌, min, true};
 ghost use Rattle.channel.specs.Meaning.{Meaning, taken};
 ghost use Rattle.burst.specs.Places.{priors_allowed};
-ghost use Rattle.burst.specs.Sequences.{place_at};
-ghost use Rattle.receiver.specs.Bursts.{Sized, Kept};
+ghost use Rattle.receiver.specs.Bursts.{Kept};
 ghost use Rattle.receiver.specs.Changes.{Altered, Shortened};
 ghost use Rattle.receiver.specs.Sound.{Fits, Sound, TellsFull};
 ghost use Rattle.receiver.specs.Standing.{standing, marks_after, altered, retaken, reweighed};
@@ -52,30 +51,6 @@ impl Burst {
         self.marks = self.marks.after_change(full, self.count, k);
     }
 
-    // Place k with another sample.
-    fn with_sample(&self, k: usize, sample: Sample) -> Place
-        requires sized { Sized self.now }
-        requires held { k < 128 }
-        ensures { result ≡ record { sample = sample; priors = (place_at self.now.places k).priors } }
-    {
-        Place {
-            sample,
-            priors: self.places[k].priors,
-        }
-    }
-
-    // Place k with other priors.
-    fn with_priors(&self, k: usize, priors: Priors) -> Place
-        requires sized { Sized self.now }
-        requires held { k < 128 }
-        ensures { result ≡ record { sample = (place_at self.now.places k).sample; priors = priors } }
-    {
-        Place {
-            sample: self.places[k].sample,
-            priors,
-        }
-    }
-
     // Changes the sample of place k, and keeps its priors.
     pub(crate) fn retake(&mut self, full: bool, k: usize, sample: Sample)
         requires held { k < self.old.count }
@@ -84,7 +59,10 @@ impl Burst {
         ensures kept { Kept self.new }
         ensures sound { (m : Meaning) → TellsFull m self.old full → taken m sample ≡ true → Sound m self.old → Sound m self.new }
     {
-        let place = self.with_sample(k, sample);
+        let place = Place {
+            sample,
+            ..self.places[k]
+        };
         self.alter(full, k, place);
     }
 
@@ -96,7 +74,10 @@ impl Burst {
         ensures kept { Kept self.new }
         ensures sound { (m : Meaning) → TellsFull m self.old full → priors_allowed m.symbols priors ≡ true → Sound m self.old → Sound m self.new }
     {
-        let place = self.with_priors(k, priors);
+        let place = Place {
+            priors,
+            ..self.places[k]
+        };
         self.alter(full, k, place);
     }
 
