@@ -1,5 +1,6 @@
 -- One place back along survivors.
-use Rattle.std.proofs.Common.{◌≡◌, ℕ, zero, suc, ◌-◌, ◌<◌, ◌≤◌, List, [], ◌∷◌, ◌++◌, length, take, drop, set, Some, None, Option, sym, refl, ap, ◌∙◌, subst, ap₂, append_assoc, arith}
+use Rattle.std.proofs.Common.{◌≡◌, ℕ, suc, ◌-◌, ◌<◌, ◌≤◌, List, [], ◌∷◌, ◌++◌, length, take, drop, set, Some, None, Option, sym, ap, ◌∙◌, subst, ap₂, append_assoc, add-one, arith}
+use Rattle.std.proofs.lemmas.List.{drop-set}
 use Rattle.cost.specs.declared.Cost.TheVariants.{Barred}
 use Rattle.channel.specs.Meaning.{Meaning, Lawful}
 use Rattle.burst.specs.Sequences.{place_at}
@@ -15,19 +16,6 @@ use Rattle.receiver.specs.Bursts.{Kept, Fresh, places_of, forward_at}
 use Rattle.receiver.specs.Readings.{Tracing}
 use Rattle.receiver.specs.Sound.{Sound}
 use Rattle.receiver.specs.declared.inner.Burst.{Burst}
-
--- a list from a written place on
-pub drop_set : (list : List ℕ) (j a : ℕ) → j < length list → drop j (set list j a) ≡ a ∷ drop (suc j) list
-drop_set [] j a lt = absurd (omega arith)
-drop_set (x ∷ xs) zero a lt = refl
-drop_set (x ∷ xs) (suc j) a lt = drop_set xs j a (omega arith)
-
--- and past it
-pub drop_past : (list : List ℕ) (j n a : ℕ) → j < n → drop n (set list j a) ≡ drop n list
-drop_past [] j n a lt = refl
-drop_past (x ∷ xs) j zero a lt = absurd (omega arith)
-drop_past (x ∷ xs) zero (suc n) a lt = refl
-drop_past (x ∷ xs) (suc j) (suc n) a lt = drop_past xs j n a (omega arith)
 
 module _ (b : Burst) (kept : Kept b) (fresh : Fresh b) (m : Meaning) (lawful : Lawful m) (sound : Sound m b) (j state : ℕ) (within : suc j ≤ b.count)
     (low : state < states m b.depth) (some : (cell_at (forward m b.depth (places_of b) (suc j)) state).cost ≡ Barred → ⊥) where
@@ -97,5 +85,5 @@ module _ (b : Burst) (kept : Kept b) (fresh : Fresh b) (start : ℕ) (list : Lis
             ∙ append_assoc (trace m q (places_of b) j back.0) (back.1 ∷ []) (take (b.count - suc j) (drop (suc j) list))
             ∙ ap₂ (λ (s a : ℕ). trace m q (places_of b) j s ++ (a ∷ take (b.count - suc j) (drop (suc j) list))) (sym from) (sym by)
             ∙ ap (λ (xs : List ℕ). trace m q (places_of b) j v.state ++ xs)
-            (sym (ap₂ (λ (n : ℕ) (xs : List ℕ). take n xs) left (drop_set list j v.symbol (omega arith)))),
+            (sym (ap₂ (λ (n : ℕ) (xs : List ℕ). take n xs) left (drop-set list j v.symbol (omega arith) ∙ ap (λ (n : ℕ). v.symbol ∷ drop n list) (add-one j)))),
       )

@@ -2,7 +2,8 @@
 ghost use Rattle.std.specs.Prelude.{◌≡◌, ◌<◌, ◌≤◌, min, true};
 ghost use Rattle.channel.specs.Meaning.{Meaning, taken};
 ghost use Rattle.burst.specs.Places.{priors_allowed};
-ghost use Rattle.receiver.specs.Bursts.{Kept};
+ghost use Rattle.burst.specs.Sequences.{place_at};
+ghost use Rattle.receiver.specs.Bursts.{Sized, Kept};
 ghost use Rattle.receiver.specs.Changes.{Altered, Shortened};
 ghost use Rattle.receiver.specs.Sound.{Fits, Sound, TellsFull};
 ghost use Rattle.receiver.specs.Standing.{standing, marks_after, altered, retaken, reweighed};
@@ -51,6 +52,30 @@ impl Burst {
         self.marks = self.marks.after_change(full, self.count, k);
     }
 
+    // Place k with another sample.
+    fn with_sample(&self, k: usize, sample: Sample) -> Place
+        requires sized { Sized self.now }
+        requires held { k < 128 }
+        ensures { result ≡ record { sample = sample; priors = (place_at self.now.places k).priors } }
+    {
+        Place {
+            sample,
+            ..self.places[k]
+        }
+    }
+
+    // Place k with other priors.
+    fn with_priors(&self, k: usize, priors: Priors) -> Place
+        requires sized { Sized self.now }
+        requires held { k < 128 }
+        ensures { result ≡ record { sample = (place_at self.now.places k).sample; priors = priors } }
+    {
+        Place {
+            priors,
+            ..self.places[k]
+        }
+    }
+
     // Changes the sample of place k, and keeps its priors.
     pub(crate) fn retake(&mut self, full: bool, k: usize, sample: Sample)
         requires held { k < self.old.count }
@@ -59,10 +84,7 @@ impl Burst {
         ensures kept { Kept self.new }
         ensures sound { (m : Meaning) → TellsFull m self.old full → taken m sample ≡ true → Sound m self.old → Sound m self.new }
     {
-        let place = Place {
-            sample,
-            ..self.places[k]
-        };
+        let place = self.with_sample(k, sample);
         self.alter(full, k, place);
     }
 
@@ -74,10 +96,7 @@ impl Burst {
         ensures kept { Kept self.new }
         ensures sound { (m : Meaning) → TellsFull m self.old full → priors_allowed m.symbols priors ≡ true → Sound m self.old → Sound m self.new }
     {
-        let place = Place {
-            priors,
-            ..self.places[k]
-        };
+        let place = self.with_priors(k, priors);
         self.alter(full, k, place);
     }
 

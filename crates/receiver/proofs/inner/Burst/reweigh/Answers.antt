@@ -1,5 +1,4 @@
-use Rattle.std.proofs.Common.{◌∙◌, subst, arith}
-use Rattle.std.proofs.lemmas.List.{get_or_default}
+use Rattle.std.proofs.Common.{sym, ap, ◌∙◌, subst}
 use Rattle.burst.specs.declared.place.Place.{Place}
 use Rattle.receiver.specs.Sound.{Fits}
 use Rattle.receiver.proofs.Altering.{priors_fit}
@@ -9,5 +8,5 @@ use Rattle.receiver.proofs.inner.Burst.reweigh.Goals as goal
 pub returns-clause-sound : goal.returns-clause-sound
 returns-clause-sound c m tells keeps sound =
     let b = c.args.self.now in
-    let is = place_of b c.args.k c.requires.held ∙ get_or_default b.places c.args.k _ c.index-self-k.result (omega (arith, c.requires.kept.sized.places, c.requires.kept.sized.few)) in
-    c.alter.ensures.sound m tells (subst (λ (p : Place). Fits m (record { sample = p.sample; priors = c.args.priors })) is (priors_fit m b sound c.args.k c.requires.held c.args.priors keeps)) sound
+    let is = c.with_priors-place.ensures ∙ ap (λ (p : Place). record { sample = p.sample; priors = c.args.priors }) (sym (place_of b c.args.k c.requires.held)) in
+    c.alter.ensures.sound m tells (subst (Fits m) (sym is) (priors_fit m b sound c.args.k c.requires.held c.args.priors keeps)) sound
