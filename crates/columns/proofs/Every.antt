@@ -1,23 +1,24 @@
 -- What each element of a list passes.
-use Rattle.std.proofs.Common.{◌≡◌, ℕ, zero, suc, ◌<◌, ◌≤◌, Bool, true, List, [], ◌∷◌, length, get_or, refl, inl, inr, arith}
-use Rattle.std.proofs.lemmas.Bool.{and_parts, and_from}
+use Rattle.std.proofs.Common.{◌≡◌, ℕ, zero, suc, ◌<◌, ◌≤◌, Bool, true, List, [], ◌∷◌, length, get_or, inl, inr, arith}
+use Rattle.std.specs.List.{list_all}
+use Rattle.std.proofs.lemmas.Bool.{and_parts}
+use Rattle.std.proofs.lemmas.List.Elements.{All-from_get_or}
+use Rattle.std.proofs.lemmas.List.Sums.{list_all-from_AllPass}
 use Rattle.columns.specs.Numbers.{within, Within}
-use Rattle.columns.specs.Cells.{entry_at, every, CostsWithin, CellsWithin}
+use Rattle.columns.specs.Cells.{entry_at, CostsWithin, CellsWithin}
 use Rattle.columns.specs.declared.column.Cell.{Cell}
 use Rattle.columns.specs.declared.column.Column.{Column}
 use Rattle.columns.proofs.Numbers.{within_low, within_more, within_cases}
 
 module _ {X : Type 0} (passes : X → Bool) (d : X) where
   -- the element at any place, if what stands for none passes too
-  pub every_at : passes d ≡ true → (xs : List X) → every passes xs ≡ true → (s : ℕ) → passes (get_or xs s d) ≡ true
+  pub every_at : passes d ≡ true → (xs : List X) → list_all passes xs ≡ true → (s : ℕ) → passes (get_or xs s d) ≡ true
   every_at past [] all s = past
-  every_at past (x ∷ xs) all zero = (and_parts (passes x) (every passes xs) all).0
-  every_at past (x ∷ xs) all (suc s) = every_at past xs (and_parts (passes x) (every passes xs) all).1 s
+  every_at past (x ∷ xs) all zero = (and_parts (passes x) (list_all passes xs) all).0
+  every_at past (x ∷ xs) all (suc s) = every_at past xs (and_parts (passes x) (list_all passes xs) all).1 s
 
-  pub every_from : (xs : List X) → ((s : ℕ) → s < length xs → passes (get_or xs s d) ≡ true) → every passes xs ≡ true
-  every_from [] each = refl
-  every_from (x ∷ xs) each =
-      and_from (passes x) (every passes xs) (each 0 (omega arith)) (every_from xs (λ s lt. each (suc s) (omega arith)))
+  pub every_from : (xs : List X) → ((s : ℕ) → s < length xs → passes (get_or xs s d) ≡ true) → list_all passes xs ≡ true
+  every_from xs each = list_all-from_AllPass passes xs (All-from_get_or (λ x. passes x ≡ true) xs d each)
 
 -- the cost at any place
 pub cost_within : (b : ℕ) (costs : List ℕ) → CostsWithin b costs → (s : ℕ) → Within b (get_or costs s 0)

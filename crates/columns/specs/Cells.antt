@@ -1,6 +1,6 @@
 -- What a stored column says of its states.
-use Rattle.std.specs.Prelude.{◌≡◌, ℕ, Bool, true, ◌&&◌, List, [], ◌∷◌, map, Some, None, Option, nat_lt, slice_index, slice_index_or}
-use Rattle.std.specs.List.{range_with_len}
+use Rattle.std.specs.Prelude.{◌≡◌, ℕ, Bool, true, List, map, Some, None, Option, nat_lt, slice_index, slice_index_or}
+use Rattle.std.specs.List.{range_with_len, list_all}
 use Rattle.cost.specs.declared.Cost.{Cost}
 use Rattle.recursions.specs.Forward as forward
 use Rattle.columns.specs.Numbers.{as_cost, within}
@@ -28,18 +28,13 @@ cells_of n column = map (λ s. stored_cell (entry_at column s)) (range_with_len 
 unfoldable pub costs_of : ℕ → List ℕ → List Cost
 costs_of n costs = map (λ s. as_cost (slice_index costs s)) (range_with_len 0 n)
 
--- each element passes the test
-abbrev pub every : {X : Type 0} → (X → Bool) → List X → Bool
-every passes [] = true
-every passes (x ∷ xs) = passes x && every passes xs
-
 -- each cost of a stored backward column is at most b or barred
 abbrev pub CostsWithin : ℕ → List ℕ → Type 0
-CostsWithin b costs = every (within b) costs ≡ true
+CostsWithin b costs = list_all (within b) costs ≡ true
 
 -- each cost of a stored column is at most b or barred
 abbrev pub CellsWithin : ℕ → Column → Type 0
-CellsWithin b column = every (λ (c : Cell). within b c.cost) column.cells ≡ true
+CellsWithin b column = list_all (λ (c : Cell). within b c.cost) column.cells ≡ true
 
 -- a survivor's state is one of sixteen
 abbrev pub survivor_fits : Option Survivor → Bool
@@ -48,4 +43,4 @@ survivor_fits (Some v) = nat_lt v.state 16
 
 -- each survivor comes from one of sixteen states
 abbrev pub SurvivorsBelow : Column → Type 0
-SurvivorsBelow column = every (λ (c : Cell). survivor_fits c.survivor) column.cells ≡ true
+SurvivorsBelow column = list_all (λ (c : Cell). survivor_fits c.survivor) column.cells ≡ true
