@@ -1,11 +1,9 @@
 pub mod Numbers
 pub mod Every
 pub mod Pairs
-pub mod Fills
 pub mod Picks
 pub mod Steps
 pub mod Sums
-pub mod Entries
 pub mod Stepped
 pub mod Minima
 pub mod Onward

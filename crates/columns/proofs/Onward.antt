@@ -14,8 +14,8 @@ use Rattle.recursions.specs.Forward.{Cell, weight, via, next}
 use Rattle.recursions.specs.Backward.{cost_at, onward, backstep}
 use Rattle.recursions.proofs.Locality.{counted_same}
 use Rattle.columns.specs.Numbers.{as_cost, Within}
-use Rattle.columns.specs.Cells.{cells_of, costs_of, CostsWithin}
-use Rattle.columns.specs.Pairs.{pairs, pair_weight, sum, min_below, onward_sum}
+use Rattle.columns.specs.Cells.{cells_of, costs_of, CostsWithin, CellsWithin}
+use Rattle.columns.specs.Pairs.{sum, onward_sum, least_onward, least_through, Weighed, Extended}
 use Rattle.columns.specs.Shapes.{Shapes}
 use Rattle.columns.specs.Worked.{Backstepped, Met}
 use Rattle.columns.specs.declared.column.Column.{Column}
@@ -73,15 +73,14 @@ costs_by m q place cells later costs same =
     counted_same (λ s. as_cost (get_or costs s 0)) (λ s. join_below cost_operations m.symbols (onward m q place cells later s)) (states m q) same
 
 module _ (m : Meaning) (q : ℕ) (shape : Shape) (shapes : Shapes m q shape) (place : Place) (column : Column) (weights : List ℕ)
-    (weighed : (p : ℕ) → p < pairs shape → as_cost (get_or weights p 0) ≡ pair_weight m shape.symbols place column.histories p)
-    (small : (p : ℕ) → p < 64 → Within 131069 (get_or weights p 0)) (later : List ℕ) (b : ℕ) (within : CostsWithin b later) where
+    (weighed : Weighed m shape place column weights) (later : List ℕ) (b : ℕ) (within : CostsWithin b later) where
   module _ (low : b ≤ 40000000) (costs : List ℕ)
-      (worked : (s : ℕ) → s < shape.states → get_or costs s 0 ≡ min_below shape.symbols (λ a. onward_sum shape.states weights later (a + shape.symbols * s))) where
+      (worked : (s : ℕ) → s < shape.states → get_or costs s 0 ≡ least_onward shape.symbols shape.states weights later s) where
     -- in the sizes of the meaning
-    worked_of : (s : ℕ) → s < states m q → get_or costs s 0 ≡ min_below m.symbols (λ a. onward_sum (states m q) weights later (a + m.symbols * s))
+    worked_of : (s : ℕ) → s < states m q → get_or costs s 0 ≡ least_onward m.symbols (states m q) weights later s
     worked_of s ls =
         worked s (omega (arith, shapes.states))
-        ∙ ap₂ (λ (k n : ℕ). min_below k (λ a. onward_sum n weights later (a + k * s))) shapes.symbols shapes.states
+        ∙ ap₂ (λ (k n : ℕ). least_onward k n weights later s) shapes.symbols shapes.states
 
     cost_of_lem : (s : ℕ) → s < states m q
         → as_cost (get_or costs s 0) ≡ join_below cost_operations m.symbols (onward m q place (cells_of (states m q) column) (costs_of (states m q) later) s)
@@ -90,16 +89,16 @@ module _ (m : Meaning) (q : ℕ) (shape : Shape) (shapes : Shapes m q shape) (pl
         ∙ min_as m.symbols _ (λ a la. sum_fits _ _)
         ∙ below_cong cost_operations m.symbols _ _ (λ a la.
         onward_is m q shape shapes later b 131069 within (omega arith) weights (weight m place (cells_of (states m q) column))
-        (weights_are m q shape shapes place column weights weighed small) (weights_within m q shape shapes place column weights weighed small) s a ls la)
+        (weights_are m q shape shapes place column weights weighed) (weights_within m q shape shapes place column weights weighed) s a ls la)
 
     pub backstepped_by : Backstepped m q place column later costs
     backstepped_by = costs_by m q place (cells_of (states m q) column) (costs_of (states m q) later) costs cost_of_lem
 
-  module _ (low : b ≤ 20000000) (bounded : CostsWithin b column.costs) (sums : List ℕ)
-      (summed : (p : ℕ) → p < pairs shape → get_or sums p 0 ≡ sum (get_or column.costs (p / shape.symbols) 0) (get_or weights p 0)) (a : ℕ) (la : a < shape.symbols) (r : ℕ)
-      (read : r ≡ min_below shape.states (λ s. onward_sum shape.states sums later (a + shape.symbols * s))) where
-    read_of : r ≡ min_below (states m q) (λ s. onward_sum (states m q) sums later (a + m.symbols * s))
-    read_of = read ∙ ap₂ (λ (k n : ℕ). min_below n (λ s. onward_sum n sums later (a + k * s))) shapes.symbols shapes.states
+  module _ (low : b ≤ 20000000) (bounded : CellsWithin b column) (sums : List ℕ)
+      (summed : Extended shape column weights sums) (a : ℕ) (la : a < shape.symbols) (r : ℕ)
+      (read : r ≡ least_through shape.symbols shape.states sums later a) where
+    read_of : r ≡ least_through m.symbols (states m q) sums later a
+    read_of = read ∙ ap₂ (λ (k n : ℕ). least_through k n sums later a) shapes.symbols shapes.states
 
     symbol_of : a < m.symbols
     symbol_of = omega (arith, shapes.symbols)
@@ -110,12 +109,12 @@ module _ (m : Meaning) (q : ℕ) (shape : Shape) (shapes : Shapes m q shape) (pl
         ∙ min_as (states m q) _ (λ s ls. sum_fits _ _)
         ∙ below_cong cost_operations (states m q) _ _ (λ s ls.
         onward_is m q shape shapes later b (b + 131069) within (omega arith) sums (via m place (cells_of (states m q) column))
-        (sums_are m q shape shapes place column weights weighed small b bounded (omega arith) sums summed)
-        (sums_within m q shape shapes place column weights weighed small b bounded (omega arith) sums summed) s a ls symbol_of)
+        (sums_are m q shape shapes place column weights weighed b bounded (omega arith) sums summed)
+        (sums_within m q shape shapes place column weights weighed b bounded (omega arith) sums summed) s a ls symbol_of)
 
 -- a column worked back adds one weight at most
 pub backstepped_within : (shape : Shape) (weights later costs : List ℕ) → ((p : ℕ) → p < 64 → Within 131069 (get_or weights p 0)) → length costs ≡ 16
-    → ((s : ℕ) → s < shape.states → get_or costs s 0 ≡ min_below shape.symbols (λ a. onward_sum shape.states weights later (a + shape.symbols * s)))
+    → ((s : ℕ) → s < shape.states → get_or costs s 0 ≡ least_onward shape.symbols shape.states weights later s)
     → ((s : ℕ) → shape.states ≤ s → s < 16 → get_or costs s 0 ≡ 4294967295)
     → (b : ℕ) → CostsWithin b later → b ≤ 40000000 → CostsWithin (b + 131069) costs
 backstepped_within shape weights later costs small long worked barred b within low =
@@ -132,11 +131,11 @@ backstepped_within shape weights later costs small long worked barred b within l
 
 -- what is read where columns meet adds up both bounds and one weight
 pub met_within : (shape : Shape) (column : Column) (weights sums later : List ℕ) → ((p : ℕ) → p < 64 → Within 131069 (get_or weights p 0))
-    → ((p : ℕ) → p < pairs shape → get_or sums p 0 ≡ sum (get_or column.costs (p / shape.symbols) 0) (get_or weights p 0))
-    → (a r : ℕ) → a < shape.symbols → r ≡ min_below shape.states (λ s. onward_sum shape.states sums later (a + shape.symbols * s))
-    → (b : ℕ) → CostsWithin b column.costs → CostsWithin b later → b ≤ 20000000 → Within (b + 131069 + b) r
+    → Extended shape column weights sums
+    → (a r : ℕ) → a < shape.symbols → r ≡ least_through shape.symbols shape.states sums later a
+    → (b : ℕ) → CellsWithin b column → CostsWithin b later → b ≤ 20000000 → Within (b + 131069 + b) r
 met_within shape column weights sums later small summed a r la read b bounded within low =
     subst (Within (b + 131069 + b)) (sym read)
     (min_within (b + 131069 + b) shape.states _ (λ s ls.
     onward_bounded shape sums later b (b + 131069) within (omega arith) (a + shape.symbols * s)
-    (sum_bounded shape column.costs weights sums small summed b bounded (omega arith) _ (pair_below shape s a ls la))))
+    (sum_bounded shape column weights sums small summed b bounded (omega arith) _ (pair_below shape s a ls la))))

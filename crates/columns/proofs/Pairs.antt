@@ -1,5 +1,5 @@
 -- The state and the symbol of a pair.
-use Rattle.std.proofs.Common.{ℕ, ◌+◌, ◌*◌, ◌/◌, ◌%◌, ◌<◌, ◌≤◌, mod-lt, mul_comm, div-lt_iff_lt-mul, mul-le-mul_left, arith}
+use Rattle.std.proofs.Common.{ℕ, ◌+◌, ◌*◌, ◌/◌, ◌<◌, ◌≤◌, mul_comm, div-lt_iff_lt-mul, mul-le-mul_left, arith}
 use Rattle.columns.specs.Pairs.{pairs}
 use Rattle.columns.specs.declared.shape.Shape.{Shape}
 
@@ -18,7 +18,3 @@ pair_below shape s a ls la =
 
 pub pair_fits : (shape : Shape) (s a : ℕ) → s < shape.states → a < shape.symbols → a + shape.symbols * s < 64
 pair_fits shape s a ls la = omega (arith, pair_below shape s a ls la, shape.pairs)
-
--- the next state of a pair is a state
-pub next_fits : (shape : Shape) (p : ℕ) → p % shape.states < 16
-next_fits shape p = omega (arith, mod-lt p shape.inhabited, shape.few)

@@ -15,12 +15,14 @@ use Rattle.burst.specs.Histories.{histories}
 use Rattle.burst.specs.declared.place.Place.{Place}
 use Rattle.recursions.specs.Depths.{states}
 use Rattle.recursions.specs.Firsts.{first_under, same_cost}
-use Rattle.recursions.specs.Forward.{Cell, cell_at, via, next, least_into, leads_to, pair_if, survivor_into, history_into, cell_of}
+use Rattle.recursions.specs.Forward as forward
+use Rattle.recursions.specs.Forward.{cell_at, via, next, least_into, leads_to, pair_if, survivor_into, history_into, cell_of}
 use Rattle.recursions.proofs.Firsts.{first_is, same_itself, same_false}
 use Rattle.columns.specs.Numbers.{as_cost}
 use Rattle.columns.specs.Arrivals.{Picked, Arrived, history_by, survivor_by}
-use Rattle.columns.specs.Cells.{survivor_pair}
-use Rattle.columns.specs.declared.forward.Arrival.{Arrival}
+use Rattle.columns.specs.Cells.{entry_at, survivor_pair}
+use Rattle.columns.specs.declared.column.Cell.{Cell}
+use Rattle.columns.specs.declared.column.Column.{Column}
 use Rattle.columns.proofs.Numbers.{as_eighths, as_barred}
 
 -- a lesser number stands for a lesser cost
@@ -67,7 +69,7 @@ as_same x y fits fits' same =
 
 -- cells with equal parts
 pub cell_same : (c d : Cost) (h i : ℕ) (v w : Option (ℕ × ℕ)) → c ≡ d → h ≡ i → v ≡ w
-    → ◌≡◌ {A = Cell} (record { cost = c; history = h; survivor = v }) (record { cost = d; history = i; survivor = w })
+    → ◌≡◌ {A = forward.Cell} (record { cost = c; history = h; survivor = v }) (record { cost = d; history = i; survivor = w })
 cell_same c d h i v w costs histories survivors j = record { cost = costs j; history = histories j; survivor = survivors j }
 
 -- by whether the sum is barred
@@ -77,13 +79,13 @@ survivor_by_lem : (m : Meaning) (b : Bool) (n p : ℕ) (found : Option ℕ) → 
 survivor_by_lem m true n p found is = refl
 survivor_by_lem m false n p found is = ap (pair_if m) is
 
-history_by_lem : (m : Meaning) (cells : List Cell) (t p : ℕ) (stored : List ℕ) (b : Bool) → (cell_at cells (p / m.symbols)).history ≡ get_or stored (p / m.symbols) 0
+history_by_lem : (m : Meaning) (cells : List forward.Cell) (t p : ℕ) (stored : Column) (b : Bool) → (cell_at cells (p / m.symbols)).history ≡ (entry_at stored (p / m.symbols)).history
     → history_into m cells t (survivor_pair (cond b None (Some (record { state = p / m.symbols; symbol = p % m.symbols }))))
-    ≡ cond b t ((p % m.symbols + m.symbols * get_or stored (p / m.symbols) 0) % histories m)
+    ≡ cond b t ((p % m.symbols + m.symbols * (entry_at stored (p / m.symbols)).history) % histories m)
 history_by_lem m cells t p stored true is = refl
 history_by_lem m cells t p stored false is = ap (λ (h : ℕ). (p % m.symbols + m.symbols * h) % histories m) is
 
-module _ (m : Meaning) (q : ℕ) (place : Place) (cells : List Cell) (sums : List ℕ)
+module _ (m : Meaning) (q : ℕ) (place : Place) (cells : List forward.Cell) (sums : List ℕ)
     (some : 1 ≤ m.symbols) (inhabited : 1 ≤ states m q)
     (are : (p : ℕ) → p < states m q * m.symbols → as_cost (get_or sums p 0) ≡ via m place cells (p / m.symbols) (p % m.symbols))
     (fit : (p : ℕ) → p < states m q * m.symbols → get_or sums p 0 ≤ 4294967295) where
@@ -147,9 +149,9 @@ module _ (m : Meaning) (q : ℕ) (place : Place) (cells : List Cell) (sums : Lis
   survivor_is t p lt picked = survivor_by_lem m (eqb (get_or sums p 0) 4294967295) (get_or sums p 0) p _ (survivor_picked t p lt picked)
 
   -- the cell of a state so entered
-  pub cell_is : (stored : List ℕ) → ((s : ℕ) → s < states m q → (cell_at cells s).history ≡ get_or stored s 0)
-      → (t : ℕ) (r : Arrival) → t < states m q → Arrived m.symbols (states m q) (histories m) stored sums t r
-      → ◌≡◌ {A = Cell} (record { cost = as_cost r.cost; history = r.history; survivor = survivor_pair r.survivor })
+  pub cell_is : (stored : Column) → ((s : ℕ) → s < states m q → (cell_at cells s).history ≡ (entry_at stored s).history)
+      → (t : ℕ) (r : Cell) → t < states m q → Arrived m.symbols (states m q) (histories m) stored sums t r
+      → ◌≡◌ {A = forward.Cell} (record { cost = as_cost r.cost; history = r.history; survivor = survivor_pair r.survivor })
       (cell_of m q place cells t (least_into m q place cells t))
   cell_is stored kept t r lt arrived =
       let p : ℕ = arrived.pair in

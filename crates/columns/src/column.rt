@@ -7,10 +7,16 @@ pub struct Survivor {
     pub symbol: u8,
 }
 
-/// The costs of up to sixteen states, their histories and their survivors. The greatest number stands for barred.
+/// What a column has for a state. The greatest number stands for barred.
+#[derive(Clone, Copy)]
+pub struct Cell {
+    pub cost: u32,
+    pub history: u8,
+    pub survivor: Option<Survivor>,
+}
+
+/// The cells of up to sixteen states.
 #[derive(Clone, Copy)]
 pub struct Column {
-    pub costs: [u32; 16],
-    pub histories: [u8; 16],
-    pub survivors: [Option<Survivor>; 16],
+    pub cells: [Cell; 16],
 }

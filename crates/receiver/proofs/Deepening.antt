@@ -7,7 +7,7 @@ use Rattle.burst.specs.declared.place.Place.{Place}
 use Rattle.recursions.specs.Depths.{states, depth_allowed}
 use Rattle.recursions.specs.Forward.{forward, start_cell}
 use Rattle.recursions.proofs.Depths.{allowed_keeps}
-use Rattle.columns.specs.Cells.{CostsWithin, SurvivorsBelow, cells_of, costs_of}
+use Rattle.columns.specs.Cells.{CellsWithin, SurvivorsBelow, cells_of, costs_of}
 use Rattle.columns.specs.Shapes.{Shapes}
 use Rattle.columns.specs.declared.column.Column.{Column}
 use Rattle.columns.specs.declared.shape.Shape.{Shape}
@@ -19,7 +19,7 @@ use Rattle.receiver.proofs.Places.{places_long, zeros, zeros_last, backward_end}
 -- what the first column is
 pub record IsStart (start : Column) : Type 0 where
   pub cells : (n : ℕ) → n ≤ 16 → cells_of n start ≡ map start_cell (range_with_len 0 n)
-  pub within : CostsWithin 0 start.costs
+  pub within : CellsWithin 0 start
   pub survivors : SurvivorsBelow start
 
 -- the first column is right at every depth

@@ -13,26 +13,26 @@ use Rattle.receiver.specs.Steps.{Descended}
 use Rattle.receiver.specs.declared.inner.Burst.{Burst}
 use Rattle.receiver.proofs.Places.{place_of}
 
--- the burst with the backward column before its mark
-abbrev pub with_backward : Burst → List ℕ → Burst
-with_backward b column = record {
+-- the burst with the backward column of place k
+abbrev pub with_backward : Burst → ℕ → List ℕ → Burst
+with_backward b k column = record {
   places = b.places;
   count = b.count;
   depth = b.depth;
   shape = b.shape;
   forward = b.forward;
-  backward = set b.backward (b.marks.backward - 1) column;
-  marks = record { forward = b.marks.forward; backward = b.marks.backward - 1 };
+  backward = set b.backward k column;
+  marks = record { forward = b.marks.forward; backward = k };
 }
 
-pub backward_sized : (b : Burst) (column : List ℕ) → Sized b → Sized (with_backward b column)
-backward_sized b column sized = record {
+pub backward_sized : (b : Burst) (k : ℕ) (column : List ℕ) → Sized b → k ≤ b.count → Sized (with_backward b k column)
+backward_sized b k column sized within = record {
   places = sized.places;
   forward = sized.forward;
-  backward = length-set b.backward (b.marks.backward - 1) column ∙ sized.backward;
+  backward = length-set b.backward k column ∙ sized.backward;
   few = sized.few;
   ahead = sized.ahead;
-  behind = omega (arith, sized.behind);
+  behind = within;
 }
 
 module _ (m : Meaning) (b a : Burst) (descended : Descended m b a) (sized : Sized a) (more : 0 < a.marks.backward) (column : List ℕ)
@@ -50,10 +50,10 @@ module _ (m : Meaning) (b a : Burst) (descended : Descended m b a) (sized : Size
   mark : k + 1 ≡ a.marks.backward
   mark = omega arith
 
-  new : (i : ℕ) → i ≡ k → backward_at (with_backward a column) i ≡ column
-  new i e = ap (backward_at (with_backward a column)) e ∙ get_or-set_same a.backward k column [] (omega (arith, sized.backward, sized.few, sized.behind))
+  new : (i : ℕ) → i ≡ k → backward_at (with_backward a k column) i ≡ column
+  new i e = ap (backward_at (with_backward a k column)) e ∙ get_or-set_same a.backward k column [] (omega (arith, sized.backward, sized.few, sized.behind))
 
-  old : (i : ℕ) → i ≢ k → backward_at (with_backward a column) i ≡ backward_at a i
+  old : (i : ℕ) → i ≢ k → backward_at (with_backward a k column) i ≡ backward_at a i
   old i ne = get_or-set_other a.backward k i column [] ne
 
   -- the bound of the column last worked
@@ -75,19 +75,19 @@ module _ (m : Meaning) (b a : Burst) (descended : Descended m b a) (sized : Size
 
   -- the new column is worked from the last one
   newest : (q c : ℕ) → Shapes m q b.shape → c ≤ 20000000 → CostsWithin c (backward_at b R)
-      → Backstepped m q (place_at (places_of b) k) (forward_at b k) (backward_at (with_backward a column) (k + 1)) (backward_at (with_backward a column) k)
+      → Backstepped m q (place_at (places_of b) k) (forward_at b k) (backward_at (with_backward a k column) (k + 1)) (backward_at (with_backward a k column) k)
   newest q c shapes low first =
       let ne : k + 1 ≢ k = omega arith in
       let place : place_at (places_of b) k ≡ place_at a.places k =
       place_of b k (omega (arith, descended.to, bounded)) ∙ ap (λ (ps : List Place). place_at ps k) (sym descended.rest.places) in
       let forward : forward_at b k ≡ forward_at a k = ap (λ (cs : List Column). column_at cs k) (sym descended.forward) in
-      subst (λ (p : Place). Backstepped m q p (forward_at b k) (backward_at (with_backward a column) (k + 1)) (backward_at (with_backward a column) k)) (sym place)
-      (subst (λ (x : Column). Backstepped m q (place_at a.places k) x (backward_at (with_backward a column) (k + 1)) (backward_at (with_backward a column) k)) (sym forward)
-      (subst (λ (x : List ℕ). Backstepped m q (place_at a.places k) (forward_at a k) x (backward_at (with_backward a column) k)) (sym (old (k + 1) ne))
+      subst (λ (p : Place). Backstepped m q p (forward_at b k) (backward_at (with_backward a k column) (k + 1)) (backward_at (with_backward a k column) k)) (sym place)
+      (subst (λ (x : Column). Backstepped m q (place_at a.places k) x (backward_at (with_backward a k column) (k + 1)) (backward_at (with_backward a k column) k)) (sym forward)
+      (subst (λ (x : List ℕ). Backstepped m q (place_at a.places k) (forward_at a k) x (backward_at (with_backward a k column) k)) (sym (old (k + 1) ne))
       (subst (λ (x : List ℕ). Backstepped m q (place_at a.places k) (forward_at a k) (backward_at a (k + 1)) x) (sym (new k refl))
       (worked q (c + 131069 * (R - (k + 1))) (subst (Shapes m q) (sym descended.rest.shape) shapes) (last_bound c low first) (small c low)))))
 
-  pub descended_more : Descended m b (with_backward a column)
+  descended_more : Descended m b (with_backward a k column)
   descended_more = record {
     rest = record { places = descended.rest.places; count = descended.rest.count; depth = descended.rest.depth; shape = descended.rest.shape };
     forward = descended.forward;
@@ -104,12 +104,24 @@ module _ (m : Meaning) (b a : Burst) (descended : Descended m b a) (sized : Size
     worked = λ q c shapes low first i ge lt.
         elim (cases_eq i k) [
           | inl here ↦
-              subst (λ (j : ℕ). Backstepped m q (place_at (places_of b) j) (forward_at b j) (backward_at (with_backward a column) (j + 1)) (backward_at (with_backward a column) j)) (sym here)
+              subst (λ (j : ℕ). Backstepped m q (place_at (places_of b) j) (forward_at b j) (backward_at (with_backward a k column) (j + 1)) (backward_at (with_backward a k column) j)) (sym here)
               (newest q c shapes low first)
           | inr there ↦
               let ne : i + 1 ≢ k = omega (arith, there) in
-              subst (λ (x : List ℕ). Backstepped m q (place_at (places_of b) i) (forward_at b i) x (backward_at (with_backward a column) i)) (sym (old (i + 1) ne))
+              subst (λ (x : List ℕ). Backstepped m q (place_at (places_of b) i) (forward_at b i) x (backward_at (with_backward a k column) i)) (sym (old (i + 1) ne))
               (subst (λ (x : List ℕ). Backstepped m q (place_at (places_of b) i) (forward_at b i) (backward_at a (i + 1)) x) (sym (old i there))
               (descended.worked q c shapes low first i (omega (arith, there)) lt))
         ];
   }
+
+-- the same at a place that is known to be the one before the mark
+pub descended_at : (m : Meaning) (b a : Burst) → Descended m b a → Sized a → b.marks.backward ≤ b.count → (column : List ℕ) (i : ℕ) → a.marks.backward ≡ i → 0 < i
+    → ((q c : ℕ) → Shapes m q a.shape → CostsWithin c (backward_at a (i - 1 + 1)) → c ≤ 40000000 → Backstepped m q (place_at a.places (i - 1)) (forward_at a (i - 1)) (backward_at a (i - 1 + 1)) column)
+    → ((c : ℕ) → CostsWithin c (backward_at a (i - 1 + 1)) → c ≤ 40000000 → CostsWithin (c + 131069) column)
+    → Descended m b (with_backward a (i - 1) column)
+descended_at m b a descended sized bounded column i at =
+    subst (λ (i : ℕ). 0 < i
+    → ((q c : ℕ) → Shapes m q a.shape → CostsWithin c (backward_at a (i - 1 + 1)) → c ≤ 40000000 → Backstepped m q (place_at a.places (i - 1)) (forward_at a (i - 1)) (backward_at a (i - 1 + 1)) column)
+    → ((c : ℕ) → CostsWithin c (backward_at a (i - 1 + 1)) → c ≤ 40000000 → CostsWithin (c + 131069) column)
+    → Descended m b (with_backward a (i - 1) column)) at
+    (λ more worked within. descended_more m b a descended sized more column worked within bounded)

@@ -11,12 +11,12 @@ use Rattle.recursions.specs.Depths.{states}
 use Rattle.recursions.specs.Forward.{Cell}
 use Rattle.columns.specs.Numbers.{as_cost}
 use Rattle.columns.specs.Pairs.{min_below}
-use Rattle.columns.specs.Cells.{CostsWithin, SurvivorsBelow, cells_of}
+use Rattle.columns.specs.Cells.{entry_at, CellsWithin, CostsWithin, SurvivorsBelow, cells_of}
 use Rattle.columns.specs.Shapes.{Shapes}
 use Rattle.columns.specs.Worked.{Stepped, Backstepped}
 use Rattle.columns.specs.declared.column.Column.{Column}
 use Rattle.columns.specs.declared.shape.Shape.{Shape}
-use Rattle.columns.proofs.Every.{costs_more, cost_fits}
+use Rattle.columns.proofs.Every.{cells_more, costs_more, cell_fits}
 use Rattle.columns.proofs.Minima.{min_as}
 use Rattle.columns.proofs.Sums.{cell_at_lem}
 use Rattle.receiver.specs.Bursts.{Sized, Kept, places_of, column_at, forward_at, backward_at}
@@ -29,7 +29,7 @@ use Rattle.receiver.proofs.Places.{places_long}
 -- a receiver's own bounds are below 20,000,000
 pub kept_bounded : (b : Burst) → Kept b → Bounded b
 kept_bounded b kept = record {
-  forward = λ k le. costs_more (131069 * k) 20000000 (forward_at b k).costs (omega (arith, kept.sized.ahead, kept.sized.few)) (kept.costs k le);
+  forward = λ k le. cells_more (131069 * k) 20000000 (forward_at b k) (omega (arith, kept.sized.ahead, kept.sized.few)) (kept.costs k le);
   backward = λ k ge le. costs_more (131069 * (b.count - k)) 20000000 (backward_at b k) (omega (arith, kept.sized.few)) (kept.onward k ge le);
 }
 
@@ -75,21 +75,21 @@ module _ (m : Meaning) (b a z : Burst) (sized : Sized b) (up : Climbed m b a) (t
   }
 
   -- the costs of the last forward column fit
-  last_fits : Bounded b → (s : ℕ) → get_or (forward_at z b.count).costs s 0 ≤ 4294967295
+  last_fits : Bounded b → (s : ℕ) → (entry_at (forward_at z b.count) s).cost ≤ 4294967295
   last_fits bounded s =
-      subst (λ (x : Column). get_or x.costs s 0 ≤ 4294967295) (sym (ahead b.count))
-      (cost_fits (20000000 + 131069 * (b.count - b.marks.forward)) (forward_at a b.count).costs (omega (arith, sized.few))
+      subst (λ (x : Column). (entry_at x s).cost ≤ 4294967295) (sym (ahead b.count))
+      (cell_fits (20000000 + 131069 * (b.count - b.marks.forward)) (forward_at a b.count) (omega (arith, sized.few))
       (up.bounded 20000000 (omega arith) (bounded.forward b.marks.forward (omega arith)) b.count sized.ahead (omega (arith, top))) s)
 
   module _ (told : Option ℕ)
-      (is : best_cost told ≡ as_cost (min_below z.shape.states (λ s. get_or (forward_at z z.count).costs s 0))) where
+      (is : best_cost told ≡ as_cost (min_below z.shape.states (λ s. (entry_at (forward_at z z.count) s).cost))) where
     best_by : Bounded b → Shaped m b → best_cost told ≡ least_of m b.depth (cells_of (states m b.depth) (forward_at z b.count))
     best_by bounded shaped =
         let q : ℕ = b.depth in
         let few : z.shape.states ≡ states m q = ap (λ (s : Shape). s.states) rest.shape ∙ shaped.shape.states in
         is
-        ∙ ap₂ (λ (n k : ℕ). as_cost (min_below n (λ s. get_or (forward_at z k).costs s 0))) few rest.count
-        ∙ min_as (states m q) (λ s. get_or (forward_at z b.count).costs s 0) (λ s lt. last_fits bounded s)
+        ∙ ap₂ (λ (n k : ℕ). as_cost (min_below n (λ s. (entry_at (forward_at z k) s).cost))) few rest.count
+        ∙ min_as (states m q) (λ s. (entry_at (forward_at z b.count) s).cost) (λ s lt. last_fits bounded s)
         ∙ below_cong cost_operations (states m q) _ _ (λ s lt. sym (ap (λ (c : Cell). c.cost) (cell_at_lem (states m q) (forward_at z b.count) s lt)))
 
     pub worked_by : Shaped m b → Bounded b → Worked m b z told
@@ -115,14 +115,14 @@ module _ (m : Meaning) (b a z : Burst) (sized : Sized b) (up : Climbed m b a) (t
   kept_by kept = record {
     sized = last;
     costs = λ k le.
-        subst (λ (x : Column). CostsWithin (131069 * k) x.costs) (sym (ahead k))
+        subst (λ (x : Column). CellsWithin (131069 * k) x) (sym (ahead k))
         (elim (cases_lt b.marks.forward k) [
           | inl past ↦
               let grows : 131069 * b.marks.forward + 131069 * (k - b.marks.forward) ≡ 131069 * k = omega arith in
-              subst (λ (n : ℕ). CostsWithin n (forward_at a k).costs) grows
+              subst (λ (n : ℕ). CellsWithin n (forward_at a k)) grows
               (up.bounded (131069 * b.marks.forward) (omega (arith, sized.ahead, sized.few)) (kept.costs b.marks.forward (omega arith)) k (omega arith)
               (omega (arith, mark, top)))
-          | inr fresh ↦ subst (λ (x : Column). CostsWithin (131069 * k) x.costs) (sym (up.kept k fresh)) (kept.costs k fresh)
+          | inr fresh ↦ subst (λ (x : Column). CellsWithin (131069 * k) x) (sym (up.kept k fresh)) (kept.costs k fresh)
         ]);
     survivors = λ k le.
         subst SurvivorsBelow (sym (ahead k))

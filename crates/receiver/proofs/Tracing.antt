@@ -1,5 +1,6 @@
 -- One place back along survivors.
-use Rattle.std.proofs.Common.{◌≡◌, ℕ, zero, suc, ◌-◌, ◌<◌, ◌≤◌, List, [], ◌∷◌, ◌++◌, length, get_or, take, drop, set, Some, None, Option, sym, refl, ap, ◌∙◌, subst, ap₂, append_assoc, arith}
+use Rattle.std.proofs.Common.{◌≡◌, ℕ, suc, ◌-◌, ◌<◌, ◌≤◌, List, [], ◌∷◌, ◌++◌, length, take, drop, set, Some, None, Option, sym, ap, ◌∙◌, subst, ap₂, append_assoc, add-one, arith}
+use Rattle.std.proofs.lemmas.List.{drop-set}
 use Rattle.cost.specs.declared.Cost.TheVariants.{Barred}
 use Rattle.channel.specs.Meaning.{Meaning, Lawful}
 use Rattle.burst.specs.Sequences.{place_at}
@@ -8,7 +9,7 @@ use Rattle.recursions.specs.Depths.{states}
 use Rattle.recursions.specs.Forward.{Cell, cell_at, forward}
 use Rattle.recursions.proofs.Locality.{forward_at_lem}
 use Rattle.recursions.proofs.Survivors.{IsSurvivor, survivor_of}
-use Rattle.columns.specs.Cells.{survivor_pair}
+use Rattle.columns.specs.Cells.{entry_at, survivor_pair}
 use Rattle.columns.specs.declared.column.Survivor.{Survivor}
 use Rattle.columns.proofs.Sums.{cell_at_lem}
 use Rattle.receiver.specs.Bursts.{Kept, Fresh, places_of, forward_at}
@@ -16,26 +17,13 @@ use Rattle.receiver.specs.Readings.{Tracing}
 use Rattle.receiver.specs.Sound.{Sound}
 use Rattle.receiver.specs.declared.inner.Burst.{Burst}
 
--- a list from a written place on
-pub drop_set : (list : List ℕ) (j a : ℕ) → j < length list → drop j (set list j a) ≡ a ∷ drop (suc j) list
-drop_set [] j a lt = absurd (omega arith)
-drop_set (x ∷ xs) zero a lt = refl
-drop_set (x ∷ xs) (suc j) a lt = drop_set xs j a (omega arith)
-
--- and past it
-pub drop_past : (list : List ℕ) (j n a : ℕ) → j < n → drop n (set list j a) ≡ drop n list
-drop_past [] j n a lt = refl
-drop_past (x ∷ xs) j zero a lt = absurd (omega arith)
-drop_past (x ∷ xs) zero (suc n) a lt = refl
-drop_past (x ∷ xs) (suc j) (suc n) a lt = drop_past xs j n a (omega arith)
-
 module _ (b : Burst) (kept : Kept b) (fresh : Fresh b) (m : Meaning) (lawful : Lawful m) (sound : Sound m b) (j state : ℕ) (within : suc j ≤ b.count)
     (low : state < states m b.depth) (some : (cell_at (forward m b.depth (places_of b) (suc j)) state).cost ≡ Barred → ⊥) where
   abbrev q : ℕ
   q = b.depth
 
   -- the stored survivor is that of the recursion
-  stored : survivor_pair (get_or (forward_at b (suc j)).survivors state None) ≡ (cell_at (forward m q (places_of b) (suc j)) state).survivor
+  stored : survivor_pair ((entry_at (forward_at b (suc j)) state).survivor) ≡ (cell_at (forward m q (places_of b) (suc j)) state).survivor
   stored =
       sym (ap (λ (c : Cell). c.survivor) (cell_at_lem (states m q) (forward_at b (suc j)) state low))
       ∙ ap (λ (cells : List Cell). (cell_at cells state).survivor) (sound.forward (suc j) (omega (arith, fresh.forward)))
@@ -48,7 +36,7 @@ module _ (b : Burst) (kept : Kept b) (fresh : Fresh b) (m : Meaning) (lawful : L
   cell_survivor : (cell_at (forward m q (places_of b) (suc j)) state).survivor ≡ Some (survived.0, survived.1)
   cell_survivor = ap (λ (c : Cell). c.survivor) (forward_at_lem m q (places_of b) j state low) ∙ survived.2.stored
 
-  pub stored_is : survivor_pair (get_or (forward_at b (suc j)).survivors state None) ≡ Some (survived.0, survived.1)
+  pub stored_is : survivor_pair ((entry_at (forward_at b (suc j)) state).survivor) ≡ Some (survived.0, survived.1)
   stored_is = stored ∙ cell_survivor
 
   pub traced_back : trace m q (places_of b) (suc j) state ≡ trace m q (places_of b) j survived.0 ++ (survived.1 ∷ [])
@@ -75,13 +63,13 @@ symbol_same x y s a e = ap (λ (o : Option (ℕ × ℕ)). second_of o) e
 module _ (b : Burst) (kept : Kept b) (fresh : Fresh b) (start : ℕ) (list : List ℕ) (j state : ℕ) (within : suc j ≤ b.count) (room : b.count ≤ length list)
     (tracing : Tracing b start list (suc j) state) where
   -- without a survivor no burst is sound
-  pub stranded : get_or (forward_at b (suc j)).survivors state None ≡ None → (m : Meaning) → Lawful m → Sound m b → start < states m b.depth
+  pub stranded : (entry_at (forward_at b (suc j)) state).survivor ≡ None → (m : Meaning) → Lawful m → Sound m b → start < states m b.depth
       → ((cell_at (forward m b.depth (places_of b) b.count) start).cost ≡ Barred → ⊥) → ⊥
   stranded none m lawful sound lt some =
       let here = tracing m lawful sound lt some in
       never _ _ (ap survivor_pair (sym none) ∙ stored_is b kept fresh m lawful sound j state within here.0 here.1)
 
-  pub traced_on : (v : Survivor) → get_or (forward_at b (suc j)).survivors state None ≡ Some v → Tracing b start (set list j v.symbol) j v.state
+  pub traced_on : (v : Survivor) → (entry_at (forward_at b (suc j)) state).survivor ≡ Some v → Tracing b start (set list j v.symbol) j v.state
   traced_on v is m lawful sound lt some =
       let q : ℕ = b.depth in
       let here = tracing m lawful sound lt some in
@@ -97,5 +85,5 @@ module _ (b : Burst) (kept : Kept b) (fresh : Fresh b) (start : ℕ) (list : Lis
             ∙ append_assoc (trace m q (places_of b) j back.0) (back.1 ∷ []) (take (b.count - suc j) (drop (suc j) list))
             ∙ ap₂ (λ (s a : ℕ). trace m q (places_of b) j s ++ (a ∷ take (b.count - suc j) (drop (suc j) list))) (sym from) (sym by)
             ∙ ap (λ (xs : List ℕ). trace m q (places_of b) j v.state ++ xs)
-            (sym (ap₂ (λ (n : ℕ) (xs : List ℕ). take n xs) left (drop_set list j v.symbol (omega arith)))),
+            (sym (ap₂ (λ (n : ℕ) (xs : List ℕ). take n xs) left (drop-set list j v.symbol (omega arith) ∙ ap (λ (n : ℕ). v.symbol ∷ drop n list) (add-one j)))),
       )

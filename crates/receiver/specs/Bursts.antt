@@ -1,7 +1,7 @@
 -- What a burst in a receiver holds.
 use Rattle.std.specs.Prelude.{◌≡◌, ℕ, ◌-◌, ◌*◌, ◌≤◌, List, [], length, take, slice_index_or}
 use Rattle.burst.specs.declared.place.Place.{Place}
-use Rattle.columns.specs.Cells.{CostsWithin, SurvivorsBelow}
+use Rattle.columns.specs.Cells.{CellsWithin, CostsWithin, SurvivorsBelow}
 use Rattle.columns.specs.declared.column.Column.{Column}
 use Rattle.receiver.specs.declared.inner.Burst.{Burst}
 
@@ -11,7 +11,7 @@ places_of b = take b.count b.places
 
 -- a column of a list; past its end one that no definition asks for
 abbrev pub column_at : List Column → ℕ → Column
-column_at columns k = slice_index_or columns k (record { costs = []; histories = []; survivors = [] })
+column_at columns k = slice_index_or columns k (record { cells = [] })
 
 -- the stored columns
 abbrev pub forward_at : Burst → ℕ → Column
@@ -22,7 +22,7 @@ backward_at b k = slice_index_or b.backward k []
 
 -- The numbers of the fresh columns are small, right or wrong: each place adds one weight at most.
 abbrev pub ForwardCosts : Burst → Type 0
-ForwardCosts b = (k : ℕ) → k ≤ b.marks.forward → CostsWithin (131069 * k) (forward_at b k).costs
+ForwardCosts b = (k : ℕ) → k ≤ b.marks.forward → CellsWithin (131069 * k) (forward_at b k)
 
 abbrev pub BackwardCosts : Burst → Type 0
 BackwardCosts b = (k : ℕ) → b.marks.backward ≤ k → k ≤ b.count → CostsWithin (131069 * (b.count - k)) (backward_at b k)

@@ -6,7 +6,7 @@ use Rattle.channel.specs.Meaning.{Meaning}
 use Rattle.burst.specs.Sequences.{place_at}
 use Rattle.recursions.specs.Answers.{least_of, best}
 use Rattle.recursions.specs.Depths.{states}
-use Rattle.columns.specs.Cells.{cells_of, CostsWithin}
+use Rattle.columns.specs.Cells.{CellsWithin, cells_of, CostsWithin}
 use Rattle.columns.specs.Worked.{Stepped, Backstepped}
 use Rattle.receiver.specs.Bursts.{places_of, forward_at, backward_at}
 use Rattle.receiver.specs.Sound.{Sound}
@@ -21,7 +21,7 @@ best_cost (Some n) = Eighths n
 
 -- the costs of a fresh column are barred or at most 20,000,000
 pub record Bounded (b : Burst) : Type 0 where
-  pub forward : (k : ℕ) → k ≤ b.marks.forward → CostsWithin 20000000 (forward_at b k).costs
+  pub forward : (k : ℕ) → k ≤ b.marks.forward → CellsWithin 20000000 (forward_at b k)
   pub backward : (k : ℕ) → b.marks.backward ≤ k → k ≤ b.count → CostsWithin 20000000 (backward_at b k)
 
 -- Which columns stay as found, with histories and survivors, and what stands.

@@ -2,7 +2,7 @@
 use Rattle.std.specs.Prelude.{◌≡◌, ℕ, ◌+◌, ◌-◌, ◌*◌, ◌<◌, ◌≤◌}
 use Rattle.channel.specs.Meaning.{Meaning}
 use Rattle.burst.specs.Sequences.{place_at}
-use Rattle.columns.specs.Cells.{CostsWithin, SurvivorsBelow}
+use Rattle.columns.specs.Cells.{CellsWithin, CostsWithin, SurvivorsBelow}
 use Rattle.columns.specs.Shapes.{Shapes}
 use Rattle.columns.specs.Worked.{Stepped, Backstepped}
 use Rattle.receiver.specs.Bursts.{places_of, forward_at, backward_at}
@@ -24,9 +24,9 @@ pub record Climbed (m : Meaning) (before after : Burst) : Type 0 where
   pub kept : (i : ℕ) → i ≤ before.marks.forward → forward_at after i ≡ forward_at before i
   pub past : (i : ℕ) → after.marks.forward < i → forward_at after i ≡ forward_at before i
   pub survivors : (i : ℕ) → before.marks.forward < i → i ≤ after.marks.forward → SurvivorsBelow (forward_at after i)
-  pub bounded : (b : ℕ) → b ≤ 20000000 → CostsWithin b (forward_at before before.marks.forward).costs
-      → (i : ℕ) → before.marks.forward ≤ i → i ≤ after.marks.forward → CostsWithin (b + 131069 * (i - before.marks.forward)) (forward_at after i).costs
-  pub worked : (q b : ℕ) → Shapes m q before.shape → b ≤ 20000000 → CostsWithin b (forward_at before before.marks.forward).costs
+  pub bounded : (b : ℕ) → b ≤ 20000000 → CellsWithin b (forward_at before before.marks.forward)
+      → (i : ℕ) → before.marks.forward ≤ i → i ≤ after.marks.forward → CellsWithin (b + 131069 * (i - before.marks.forward)) (forward_at after i)
+  pub worked : (q b : ℕ) → Shapes m q before.shape → b ≤ 20000000 → CellsWithin b (forward_at before before.marks.forward)
       → (i : ℕ) → before.marks.forward ≤ i → i < after.marks.forward
       → Stepped m q (place_at (places_of before) i) (forward_at after i) (forward_at after (i + 1))
 

@@ -60,7 +60,7 @@ impl Burst {
     {
         Place {
             sample,
-            priors: self.places[k].priors,
+            ..self.places[k]
         }
     }
 
@@ -71,8 +71,8 @@ impl Burst {
         ensures { result ≡ record { sample = (place_at self.now.places k).sample; priors = priors } }
     {
         Place {
-            sample: self.places[k].sample,
             priors,
+            ..self.places[k]
         }
     }
 

@@ -13,6 +13,7 @@ pub struct Marks {
 }
 
 /// The places of a burst with room for 128, the forward and backward columns of each and of the end, and the depth.
+// It is plain and has no invariant of its own, so that one element is changed in place: `requires` of its methods say what they need.
 #[derive(Clone, Copy)]
 pub struct Burst {
     pub(crate) places: [Place; 128],

@@ -6,7 +6,7 @@ ghost use Rattle.recursions.specs.Answers.{value_cost, trace};
 ghost use Rattle.recursions.specs.Depths.{states};
 ghost use Rattle.recursions.specs.Forward.{cell_at, forward};
 ghost use Rattle.burst.specs.Sequences.{place_at};
-ghost use Rattle.columns.specs.Cells.{CostsWithin};
+ghost use Rattle.columns.specs.Cells.{entry_at, CellsWithin, CostsWithin};
 ghost use Rattle.columns.specs.Shapes.{Shapes};
 ghost use Rattle.columns.specs.Worked.{Met};
 ghost use Rattle.receiver.specs.Bursts.{Sized, Kept, Fresh, places_of, forward_at, backward_at};
@@ -15,7 +15,7 @@ ghost use Rattle.receiver.specs.Sound.{Sound};
 
 use crate::inner::Burst;
 use channel::Channel;
-use columns::{Survivor, first_with, least, meeting};
+use columns::{Survivor, as_cost};
 use cost::Cost;
 
 impl Burst {
@@ -23,16 +23,10 @@ impl Burst {
     fn meet<C: Channel>(&self, channel: &C, place: usize, symbol: usize) -> u32
         requires sized { Sized self.now }
         requires place { place < 128 }
-        ensures { (q b : ℕ) → Shapes (C.meaning channel.now) q self.now.shape → CostsWithin b (forward_at self.now place).costs → CostsWithin b (backward_at self.now (place + 1)) → b ≤ 20000000 → symbol < self.now.shape.symbols → Met (C.meaning channel.now) q (place_at self.now.places place) (forward_at self.now place) (backward_at self.now (place + 1)) symbol result }
+        ensures { (q b : ℕ) → Shapes (C.meaning channel.now) q self.now.shape → CellsWithin b (forward_at self.now place) → CostsWithin b (backward_at self.now (place + 1)) → b ≤ 20000000 → symbol < self.now.shape.symbols → Met (C.meaning channel.now) q (place_at self.now.places place) (forward_at self.now place) (backward_at self.now (place + 1)) symbol result }
     {
-        meeting(
-            channel,
-            self.shape,
-            &self.places[place],
-            &self.forward[place],
-            &self.backward[place + 1],
-            symbol,
-        )
+        self.section(channel, place)
+            .meeting(&self.backward[place + 1], symbol)
     }
 
     // The cost of a symbol at a place, where all columns are fresh.
@@ -43,12 +37,7 @@ impl Burst {
         requires symbol { symbol < (C.meaning channel.now).symbols }
         ensures { Sound (C.meaning channel.now) self.now → result ≡ value_cost (C.meaning channel.now) self.now.depth (places_of self.now) place symbol }
     {
-        let number = self.meet(channel, place, symbol);
-        if number == u32::MAX {
-            Cost::Barred
-        } else {
-            Cost::Eighths(number)
-        }
+        as_cost(self.meet(channel, place, symbol))
     }
 
     // The first state that has the best, or none if there is no best.
@@ -58,12 +47,8 @@ impl Burst {
         ensures small { IfSome result (λ s. s < 16) }
         ensures first { (m : Meaning) → Sound m self.now → LastState m self.now result }
     {
-        let last = self.forward[self.count];
-        let cost = least(self.shape, &last.costs);
-        if cost == u32::MAX {
-            return None;
-        }
-        first_with(self.shape, &last.costs, cost)
+        let best = self.best()?;
+        self.forward[self.count].first_with(self.shape, best)
     }
 
     // The survivor of a state in a forward column.
@@ -71,10 +56,9 @@ impl Burst {
         requires sized { Sized self.now }
         requires column { column < 129 }
         requires state { state < 16 }
-        ensures { result ≡ slice_index_or (forward_at self.now column).survivors state None }
+        ensures { result ≡ (entry_at (forward_at self.now column) state).survivor }
     {
-        let column = self.forward[column];
-        column.survivors[state]
+        self.forward[column].cells[state].survivor
     }
 
     // Writes the symbols back along survivors from a state of the last column, and leaves the rest of the list.
@@ -87,12 +71,10 @@ impl Burst {
         ensures front { (m : Meaning) → Lawful m → Sound m self.now → start < states m self.now.depth → ((cell_at (forward m self.now.depth (places_of self.now) self.now.count) start).cost ≢ Barred) → take self.now.count list.new ≡ trace m self.now.depth (places_of self.now) self.now.count start }
     {
         let mut state = start;
-        let mut k = self.count;
-        while 0 < k {
-            let Some(survivor) = self.survivor(k, state) else {
+        for k in (0..self.count).rev() {
+            let Some(survivor) = self.survivor(k + 1, state) else {
                 return;
             };
-            k -= 1;
             list[k] = survivor.symbol;
             state = usize::from(survivor.state);
         }

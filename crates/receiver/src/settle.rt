@@ -1,7 +1,7 @@
 //! Working the columns that are stale.
 ghost use Rattle.std.specs.Prelude.{◌≡◌, ℕ, ◌+◌, ◌-◌, ◌<◌, ◌≤◌, slice_index};
 ghost use Rattle.burst.specs.Sequences.{place_at};
-ghost use Rattle.columns.specs.Cells.{CostsWithin, SurvivorsBelow};
+ghost use Rattle.columns.specs.Cells.{entry_at, CellsWithin, CostsWithin, SurvivorsBelow};
 ghost use Rattle.columns.specs.Shapes.{Shapes};
 ghost use Rattle.columns.specs.Worked.{Stepped, Backstepped};
 ghost use Rattle.columns.specs.Numbers.{as_cost};
@@ -13,7 +13,8 @@ ghost use Rattle.receiver.specs.Steps.{Climbed, Descended};
 
 use crate::inner::Burst;
 use channel::Channel;
-use columns::{Column, backstep, least, step};
+use columns::{Column, Section, as_cost};
+use cost::Cost;
 
 /// What settling answers: how many columns were worked, and the best, or none.
 #[derive(Clone, Copy, PartialEq, Eq)]
@@ -23,15 +24,32 @@ pub struct Settled {
 }
 
 impl Burst {
+    // The section of place k, with its stored forward column.
+    pub(crate) fn section<'a, C: Channel>(&'a self, channel: &'a C, k: usize) -> Section<'a, C>
+        requires sized { Sized self.now }
+        requires place { k < 128 }
+        ensures channel { result.channel.now ≡ channel.now }
+        ensures shape { result.shape ≡ self.now.shape }
+        ensures place { result.place.now ≡ place_at self.now.places k }
+        ensures column { result.column.now ≡ forward_at self.now k }
+    {
+        Section {
+            channel,
+            shape: self.shape,
+            place: &self.places[k],
+            column: &self.forward[k],
+        }
+    }
+
     // The forward column after place k, worked from the stored column of that place.
     fn next_column<C: Channel>(&self, channel: &C, k: usize) -> Column
         requires sized { Sized self.now }
         requires place { k < 128 }
-        ensures stepped { (q b : ℕ) → Shapes (C.meaning channel.now) q self.now.shape → CostsWithin b (forward_at self.now k).costs → b ≤ 40000000 → Stepped (C.meaning channel.now) q (place_at self.now.places k) (forward_at self.now k) result }
-        ensures within { (b : ℕ) → CostsWithin b (forward_at self.now k).costs → b ≤ 40000000 → CostsWithin (b + 131069) result.costs }
+        ensures stepped { (q b : ℕ) → Shapes (C.meaning channel.now) q self.now.shape → CellsWithin b (forward_at self.now k) → b ≤ 40000000 → Stepped (C.meaning channel.now) q (place_at self.now.places k) (forward_at self.now k) result }
+        ensures within { (b : ℕ) → CellsWithin b (forward_at self.now k) → b ≤ 40000000 → CellsWithin (b + 131069) result }
         ensures survivors { SurvivorsBelow result }
     {
-        step(channel, self.shape, &self.places[k], &self.forward[k])
+        self.section(channel, k).step()
     }
 
     // The backward column of place k, worked from the stored columns of that place and after it.
@@ -41,13 +59,7 @@ impl Burst {
         ensures backstepped { (q b : ℕ) → Shapes (C.meaning channel.now) q self.now.shape → CostsWithin b (backward_at self.now (k + 1)) → b ≤ 40000000 → Backstepped (C.meaning channel.now) q (place_at self.now.places k) (forward_at self.now k) (backward_at self.now (k + 1)) result }
         ensures within { (b : ℕ) → CostsWithin b (backward_at self.now (k + 1)) → b ≤ 40000000 → CostsWithin (b + 131069) result }
     {
-        backstep(
-            channel,
-            self.shape,
-            &self.places[k],
-            &self.forward[k],
-            &self.backward[k + 1],
-        )
+        self.section(channel, k).backstep(&self.backward[k + 1])
     }
 
     // Works the forward columns that are stale.
@@ -57,10 +69,8 @@ impl Burst {
         ensures sized { Sized self.new }
         ensures done { self.new.marks.forward ≡ self.old.count }
     {
-        while self.marks.forward < self.count {
-            let k = self.marks.forward;
-            let column = self.next_column(channel, k);
-            self.forward[k + 1] = column;
+        for k in self.marks.forward..self.count {
+            self.forward[k + 1] = self.next_column(channel, k);
             self.marks.forward = k + 1;
         }
     }
@@ -72,10 +82,8 @@ impl Burst {
         ensures sized { Sized self.new }
         ensures done { self.new.marks.backward ≡ 0 }
     {
-        while 0 < self.marks.backward {
-            let k = self.marks.backward - 1;
-            let column = self.column_before(channel, k);
-            self.backward[k] = column;
+        for k in (0..self.marks.backward).rev() {
+            self.backward[k] = self.column_before(channel, k);
             self.marks.backward = k;
         }
     }
@@ -83,11 +91,12 @@ impl Burst {
     // The least cost of the last forward column, or none.
     pub(crate) fn best(&self) -> Option<u32>
         requires { Sized self.now }
-        ensures { best_cost result ≡ as_cost (min_below self.now.shape.states (λ s. slice_index (forward_at self.now self.now.count).costs s)) }
+        ensures { best_cost result ≡ as_cost (min_below self.now.shape.states (λ s. (entry_at (forward_at self.now self.now.count) s).cost)) }
     {
-        let last = self.forward[self.count];
-        let cost = least(self.shape, &last.costs);
-        if cost == u32::MAX { None } else { Some(cost) }
+        match as_cost(self.forward[self.count].least(self.shape)) {
+            Cost::Eighths(cost) => Some(cost),
+            Cost::Barred => None,
+        }
     }
 
     // Works every stale column, and answers how many these were and the best.

@@ -16,8 +16,3 @@ pow-requires g c =
     let kind = c.alphabet.ensures ∙ sym (g.met.C.Channel.kind c.args.channel.now) in
     let power = ap₂ (λ (s e : ℕ). s ^ e) kind c.saturating_sub.ensures in
     omega (arith, power, states_grow m lawful c.args.depth m.memory c.requires, few_histories m lawful)
-
-pub returns : goal.returns
-returns g c =
-    let kind = c.alphabet.ensures ∙ sym (g.met.C.Channel.kind c.args.channel.now) in
-    c.pow.ensures ∙ ap₂ (λ (s e : ℕ). s ^ e) kind c.saturating_sub.ensures

@@ -26,14 +26,9 @@ of-requires g c =
     let is = largest m lawful _ _ _ c.min-depth.ensures c.memory.ensures (λ s. c.limit.ensures.two (sym kind ∙ s)) (λ s. c.limit.ensures.four (sym kind ∙ s)) in
     subst (λ (q : ℕ). depth_allowed m q ≡ true) (sym is) (largest_allowed m lawful)
 
-pub returns : goal.returns
-returns g c =
+pub returns-clause-depth : goal.returns-clause-depth
+returns-clause-depth g c =
     let m = g.C.Channel.meaning c.args.channel.now in
     let lawful = g.met.C.Channel.lawful c.args.channel.now in
     let kind = g.met.C.Channel.kind c.args.channel.now in
-    let is = largest m lawful _ _ _ c.min-depth.ensures c.memory.ensures (λ s. c.limit.ensures.two (sym kind ∙ s)) (λ s. c.limit.ensures.four (sym kind ∙ s)) in
-    record {
-      depth = is;
-      allowed = subst (λ (q : ℕ). depth_allowed m q ≡ true) (sym is) (largest_allowed m lawful);
-      shape = c.of.ensures;
-    }
+    largest m lawful _ _ _ c.min-depth.ensures c.memory.ensures (λ s. c.limit.ensures.two (sym kind ∙ s)) (λ s. c.limit.ensures.four (sym kind ∙ s))
