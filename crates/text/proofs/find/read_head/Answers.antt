@@ -1,31 +1,16 @@
-use Rattle.std.proofs.Common.{refl, ap, ◌∙◌, inr}
-use Rattle.forms.specs.Forms.{head_of}
-use Rattle.forms.specs.Lines.{said}
-use Rattle.text.specs.Kinds.{kind_of}
-use Rattle.text.proofs.Finding.{read_head}
+use Rattle.std.proofs.Common.{subst, Ok, sym}
+use Rattle.std.proofs.lemmas.Result.{err_from_is_err_and}
+use Rattle.text.specs.Kinds.{ReadsHead}
+use Rattle.text.proofs.Finding.{head_read, head_lacks, place_read}
 use Rattle.text.proofs.find.read_head.Goals as goal
 
-pub returns-in-Taps : goal.returns-in-Taps
-returns-in-Taps c =
-    let k = c.in_ok-read_line.ensures.reads in
-    (k.form, k.lawful, k.text_is, ap kind_of (read_head _ _ k ∙ ap (λ l. head_of (said l)) c.in-Taps.is))
-
-pub returns-in-Table : goal.returns-in-Table
-returns-in-Table c =
-    let k = c.in_ok-read_line.ensures.reads in
-    (k.form, k.lawful, k.text_is, ap kind_of (read_head _ _ k ∙ ap (λ l. head_of (said l)) c.in-Table.is))
-
-pub returns-in-Code : goal.returns-in-Code
-returns-in-Code c =
-    let k = c.in_ok-read_line.ensures.reads in
-    (k.form, k.lawful, k.text_is, ap kind_of (read_head _ _ k ∙ ap (λ l. head_of (said l)) c.in-Code.is))
-
-pub returns-in-Depth : goal.returns-in-Depth
-returns-in-Depth c =
-    let k = c.in_ok-read_line.ensures.reads in
-    (k.form, k.lawful, k.text_is, read_head _ _ k ∙ ap (λ l. head_of (said l)) c.in-Depth.is)
+pub returns-in_err-line : goal.returns-in_err-line
+returns-in_err-line c =
+    let p = err_from_is_err_and c.from_residual.result c.from_residual.ensures.1 in
+    rw (p.1, p.2) (head_lacks _ _ c.in_err-line.ensures)
 
 pub returns-in-Place : goal.returns-in-Place
-returns-in-Place c =
-    let k = c.in_ok-read_line.ensures.reads in
-    inr (refl, inr (k.form, k.lawful, k.text_is, read_head _ _ k ∙ ap (λ l. head_of (said l)) c.in-Place.is))
+returns-in-Place c = place_read _ _ c.in_ok-line.ensures _ c.in-Place.is
+
+pub returns-in_default : goal.returns-in_default
+returns-in_default c = subst (λ o. ReadsHead c.args.line.now (Ok o)) (sym c.of.ensures) (head_read _ _ c.in_ok-line.ensures c.in_default.not-Place)
