@@ -1,5 +1,6 @@
 -- Written priors, one number after another.
-use Rattle.std.proofs.Common.{◌≡◌, ℕ, zero, suc, ◌+◌, ◌<◌, ◌≤◌, Bool, true, false, ◌&&◌, ◌≢◌, List, [], ◌∷◌, length, get_or, take, set, pos, MatchBool, sym, refl, ap, ◌∙◌, subst, inl, inr, arith, length-set}
+use Rattle.std.proofs.Common.{◌≡◌, ℕ, zero, suc, ◌+◌, ◌<◌, ◌≤◌, Bool, true, false, ◌&&◌, ◌≢◌, List, [], ◌∷◌, length, get_or, take, set, pos, Some, None, MatchBool, Option, sym, refl, ap, ◌∙◌, subst, inl, inr, arith, length-set}
+use Rattle.std.specs.Option.{MatchOption, unwrap_or}
 use mathlib.Core.Path.{fun_ext}
 use mathlib.Core.HLevel.{is_prop→PathP}
 use native.Mathlib.Bridge.{le_prop}
@@ -102,8 +103,14 @@ all_numbered ps i numbers p le g e = (
       | inr ge ↦ g.left j ge ∙ sym (ap number_of_prior (get_or_past ps j (Number (pos 0)) (omega arith)))
     ]
 
-pub hands_written : (ps : List Prior) (p : Priors) → (all_fit ps ≡ true) × (p ≡ priors_of ps) → Hands ps p
+hands_written : (ps : List Prior) (p : Priors) → (all_fit ps ≡ true) × (p ≡ priors_of ps) → Hands ps p
 hands_written ps p (fit, is) = subst (λ b. MatchBool b (p ≡ priors_of ps) (p.numbers ≡ 65535 ∷ (65535 ∷ (65535 ∷ (65535 ∷ []))))) (sym fit) is
+
+pub hands_or :
+    (ps : List Prior) (o : Option Priors) (b : Priors) → MatchOption o (all_fit ps ≡ false) (λ p. (all_fit ps ≡ true) × (p ≡ priors_of ps))
+    → b.numbers ≡ 65535 ∷ (65535 ∷ (65535 ∷ (65535 ∷ []))) → Hands ps (unwrap_or o b)
+hands_or ps (Some p) b h e = hands_written ps p h
+hands_or ps None b h e = subst (λ f. MatchBool f (b ≡ priors_of ps) (b.numbers ≡ 65535 ∷ (65535 ∷ (65535 ∷ (65535 ∷ []))))) (sym h) e
 
 -- the refusal of what is handed on is that of what is written
 broken : (symbols : ℕ) (p : Priors) → p.numbers ≡ 65535 ∷ (65535 ∷ (65535 ∷ (65535 ∷ []))) → priors_allowed symbols p ≡ false

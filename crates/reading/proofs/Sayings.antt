@@ -1,5 +1,5 @@
 -- What a line says, and what that does.
-use Rattle.std.proofs.Common.{◌≡◌, ℕ, cond, List, [], ℤ, Some, None, Ok, Err, Result, sym, refl, ap, ◌∙◌, subst, inr, arith, MatchResult}
+use Rattle.std.proofs.Common.{◌≡◌, ℕ, cond, List, [], ℤ, Some, None, Ok, Err, Result, sym, refl, ap, ◌∙◌, subst, inl, inr, arith, MatchResult}
 use Rattle.forms.specs.Forms.{Form, taps_form, table_form, code_form, depth_form, place_form, head_of, text_of, Lawful}
 use Rattle.forms.specs.Lines.{said, held, priors_in, IsForm}
 use Rattle.forms.specs.declared.line.Line.{Line}
@@ -12,11 +12,11 @@ use Rattle.channel.specs.declared.Channel.{Ghosts}
 use Rattle.receiver.specs.Bursts.{places_of}
 use Rattle.receiver.specs.Standing.{depth_refusal}
 use Rattle.receiver.specs.declared.receiver.Receiver.{Receiver}
-use Rattle.text.specs.Kinds.{kind_of}
+use Rattle.text.specs.Kinds.{kind_of, ReadsHeadLine}
 use Rattle.text.specs.declared.fault.Cause.{Cause}
 use Rattle.text.specs.declared.fault.Layer.TheVariants.{Text as ByText, Receiver as ByReceiver}
 use Rattle.kinds.specs.Rules.{Rule, Told, told_by, is_kind, line_refusal}
-use Rattle.reading.specs.Lines.{Does, ReadsChannel}
+use Rattle.reading.specs.Lines.{Does, Outcome, ReadsChannel}
 use Rattle.reading.specs.Received.{state_of, Received}
 use Rattle.reading.specs.Steps.{Blame, State, bare, tuned, deep, ready, unless, received, tried, repeated, depth_of, Saying, a_channel, a_depth, a_place, saying, first, after_channel, after_depth, after_heads, step}
 
@@ -91,6 +91,12 @@ pub says_channel :
     (text : List ℕ) (line : Line) (i : IsForm text line) → ((z : ℤ) → line ≡ Depth z → ⊥) → ((p : PlaceLine) → line ≡ Place p → ⊥)
     → saying i.form ≡ a_channel i.form
 says_channel text line i no-depth no_place = channel_said line i.form i.says no-depth no_place
+
+-- a line that is read as no form, where a head is wanted
+pub head_lacks :
+    (k : Rule) (n : ℕ) (s : State) (text : List ℕ) (cause : Cause) → ReadsHeadLine text (Err cause) → Outcome k n s text (Err (record { line = n; told = told_by cause }))
+head_lacks k n s text cause (inl (is, some, none)) = inl (ap (λ e. record { line = n; told = told_by e }) is, some, none)
+head_lacks k n s text cause (inr (is, z)) = inr (inl (ap (λ e. record { line = n; told = told_by e }) is, z))
 
 -- the first head
 pub first_taken :

@@ -16,15 +16,7 @@ pub(crate) fn read_places<C: Spelled>(receiver: &mut Receiver<C>, text: &[u8]) -
     let mut rest = text;
     while !rest.is_empty() {
         let (line, after) = cut_line(rest);
-        match add_line(receiver, line) {
-            Ok(()) => {}
-            Err(cause) => {
-                return Err(Fault {
-                    line: number,
-                    cause,
-                });
-            }
-        }
+        add_line(receiver, line, number)?;
         number += 1;
         rest = after;
     }

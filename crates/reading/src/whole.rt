@@ -16,10 +16,7 @@ fn read_new<C: Spelled + Drop>(text: &[u8]) -> Result<Receiver<C>, Fault>
     ensures one { TextHasOneAnswer }
 {
     if text.len() > MOST_BYTES {
-        return Err(Fault {
-            line: 1,
-            cause: Cause::Text(Malformed::TooLong),
-        });
+        return Err(Cause::Text(Malformed::TooLong).at(1));
     }
     let (first, rest) = cut_line(text);
     let (second, places) = cut_line(rest);

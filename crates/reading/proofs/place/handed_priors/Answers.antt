@@ -1,5 +1,7 @@
-use Rattle.reading.proofs.Numbering.{hands_written}
+use Rattle.std.proofs.Common.{sym, subst}
+use Rattle.reading.specs.Places.{Hands}
+use Rattle.reading.proofs.Numbering.{hands_or}
 use Rattle.reading.proofs.place.handed_priors.Goals as goal
 
-pub returns-in-Some : goal.returns-in-Some
-returns-in-Some c = hands_written c.args.priors.now c.in-Some.priors c.in-Some.ensures
+pub returns : goal.returns
+returns c = subst (Hands c.args.priors.now) (sym c.unwrap_or.ensures) (hands_or c.args.priors.now c.written_priors.result c.broken_priors.result c.written_priors.ensures c.broken_priors.ensures)

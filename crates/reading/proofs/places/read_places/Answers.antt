@@ -1,4 +1,5 @@
 use Rattle.std.proofs.Common.{◌≡◌, ◌<◌, length, ap, arith, rules}
+use Rattle.std.proofs.lemmas.Result.{err_from_is_err_and}
 use Rattle.reading.specs.Received.{state_of}
 use Rattle.reading.proofs.Running.{so_none, so_more, some_line, shorter, blame_is, so_blamed, so_all}
 use Rattle.reading.proofs.places.read_places.Goals as goal
@@ -11,17 +12,18 @@ add_line-requires g c =
     let some : 0 < length c.loop-rest.rest.now = search rules in
     some_line _ _ _ c.cut_line.ensures some
 
-pub returns-in-Err : goal.returns-in-Err
-returns-in-Err g c =
+pub returns-in_err-add_line : goal.returns-in_err-add_line
+returns-in_err-add_line g c =
+    let p = err_from_is_err_and c.from_residual.result c.from_residual.ensures.1 in
     let k = g.C.Spelled.rule in
     let rest = c.loop-rest.rest.now in
     let some : 0 < length rest = search rules in
-    record {
+    rw (p.1, p.2) (record {
       does =
           so_blamed k 3 _ _ c.loop-rest.number (state_of g.C.Spelled.form c.loop-rest.receiver) rest _ c.loop-rest.invariant.0
-          (blame_is k c.loop-rest.number (state_of g.C.Spelled.form c.loop-rest.receiver) rest _ _ _ c.cut_line.ensures (λ e _. omega (arith, ap length e)) (c.in-Err.ensures.does c.loop-rest.number));
+          (blame_is k c.loop-rest.number (state_of g.C.Spelled.form c.loop-rest.receiver) rest _ _ _ c.cut_line.ensures (λ e _. omega (arith, ap length e)) c.in_err-add_line.ensures.does);
       begun = tt;
-    }
+    })
 
 pub overflow_add-number : goal.overflow_add-number
 overflow_add-number g c =
@@ -36,8 +38,8 @@ loop-rest-smaller g c =
 pub loop-rest-preserved : goal.loop-rest-preserved
 loop-rest-preserved g c =
     let some : 0 < length c.loop-rest.rest.now = search rules in (
-      so_more g.C.Spelled.rule 3 _ _ c.loop-rest.number _ _ _ _ _ c.loop-rest.invariant.0 c.cut_line.ensures some (c.in-Ok.ensures.does c.loop-rest.number),
-      λ b. c.in-Ok.ensures.begun (c.loop-rest.invariant.1 b),
+      so_more g.C.Spelled.rule 3 _ _ c.loop-rest.number _ _ _ _ _ c.loop-rest.invariant.0 c.cut_line.ensures some c.in_ok-add_line.ensures.does,
+      λ b. c.in_ok-add_line.ensures.begun (c.loop-rest.invariant.1 b),
     )
 
 pub returns : goal.returns
