@@ -23,6 +23,7 @@ fn written_priors(priors: &[Prior]) -> Option<Priors>
     ensures { MatchOption result (all_fit priors.now ≡ false) (λ p. (all_fit priors.now ≡ true) × (p ≡ priors_of priors.now)) }
 {
     let mut numbers = [0; 4];
+    // By index: no invariant was found for `iter_mut` beside the priors, which says what the numbers are at a refusal.
     for (i, prior) in priors.iter().enumerate() {
         numbers[i] = prior_number(*prior)?;
     }

@@ -49,8 +49,7 @@ fn read_channel<C: Spelled>(line: &[u8]) -> Result<C, Cause>
 {
     let line = read_head_line(line)?;
     match line {
-        Line::Depth(_) => Err(Cause::Text(Malformed::Heads)),
-        Line::Place(_) => Err(Cause::Text(Malformed::Heads)),
+        Line::Depth(_) | Line::Place(_) => Err(Cause::Text(Malformed::Heads)),
         _ => C::from_line(&line),
     }
 }

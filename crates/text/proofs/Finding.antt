@@ -3,48 +3,17 @@ use Rattle.std.proofs.Common.{◌≡◌, ℕ, ◌+◌, ◌≤◌, ◌⊎◌, Lis
 use Rattle.std.specs.List.{flat_map, AllByRecursion}
 use Rattle.std.proofs.lemmas.List.{append-nil}
 use Rattle.std.proofs.lemmas.Bool.{cases_lt}
-use Rattle.forms.specs.Forms.{Form, taps_form, table_form, code_form, depth_form, place_form, head_of, text_of, Lawful}
-use Rattle.forms.specs.Lines.{said, held, IsForm}
+use Rattle.forms.specs.Forms.{Form, head_of, text_of, Lawful}
 use Rattle.forms.specs.declared.head.Head.{Head}
 use Rattle.forms.specs.declared.head.Head.TheVariants.{Depth, Place}
-use Rattle.forms.specs.declared.line.Line.{Line}
-use Rattle.forms.specs.declared.line.Line.TheVariants.{Taps as ATaps, Table as ATable, Code as ACode, Depth as ADepth, Place as APlace}
-use Rattle.forms.specs.declared.line.PlaceLine.{PlaceLine}
 use Rattle.text.specs.declared.fault.Cause.{Cause}
 use Rattle.text.specs.declared.fault.Cause.TheVariants.{Text}
 use Rattle.text.specs.declared.fault.Fault.{Fault}
 use Rattle.text.specs.declared.fault.Malformed.TheVariants.{Heads}
 use Rattle.text.specs.declared.kind.Kind.{Kind}
 use Rattle.text.specs.Cutting.{CutsLine}
-use Rattle.text.specs.Kinds.{kind_of, Begins, NoForm, Misplaced, Blames, Found, KindHasOneAnswer, ReadsHeadLine, ReadsHead}
+use Rattle.text.specs.Kinds.{kind_of, Begins, NoForm, Misplaced, Blames, Found, KindHasOneAnswer, ReadsHead}
 use Rattle.text.proofs.Feeds.{same_start, some_form, first_is, none_left}
-
--- a line begins as the form that it was read from
-held_head : (f : Form) → head_of (held f) ≡ head_of f
-held_head (taps_form n ts) = refl
-held_head (table_form n m es) = refl
-held_head (code_form m x y) = refl
-held_head (depth_form d) = refl
-held_head (place_form x y ps) = refl
-
-read_head : (text : List ℕ) (line : Line) (k : IsForm text line) → head_of k.form ≡ head_of (said line)
-read_head text line k = sym (ap head_of k.says ∙ held_head k.form)
-
--- what a line is, where a channel line is lacking
-pub head_read :
-    (text : List ℕ) (line : Line) → IsForm text line → ((p : PlaceLine) → line ≡ APlace p → ⊥) → ReadsHead text (Ok (kind_of (head_of (said line))))
-head_read text (ATaps l) k no_place = (k.form, k.lawful, k.text_is, ap kind_of (read_head text (ATaps l) k))
-head_read text (ATable l) k no_place = (k.form, k.lawful, k.text_is, ap kind_of (read_head text (ATable l) k))
-head_read text (ACode l) k no_place = (k.form, k.lawful, k.text_is, ap kind_of (read_head text (ACode l) k))
-head_read text (ADepth z) k no_place = (k.form, k.lawful, k.text_is, read_head text (ADepth z) k)
-head_read text (APlace p) k no_place = absurd (no_place p refl)
-
-pub place_read : (text : List ℕ) (line : Line) → IsForm text line → (p : PlaceLine) → line ≡ APlace p → ReadsHead text (Err (Text Heads))
-place_read text line k p is = inr (refl, inr (k.form, k.lawful, k.text_is, read_head text line k ∙ ap (λ l. head_of (said l)) is))
-
-pub head_lacks : (line : List ℕ) (cause : Cause) → ReadsHeadLine line (Err cause) → ReadsHead line (Err cause)
-head_lacks line cause (inl none) = inl none
-head_lacks line cause (inr (is, z)) = inr (is, inl z)
 
 -- the depth lines before the rest of a text
 pub record Before (text rest : List ℕ) (depths : List Form) : Type 0 where

@@ -13,4 +13,4 @@ pub use fault::{Cause, Fault, Layer, Malformed};
 pub use find::{MOST_BYTES, find_kind};
 pub use head::read_head_line;
 pub use kind::Kind;
-pub use lines::cut_line;
+pub use lines::{Lines, cut_line};
