@@ -24,7 +24,7 @@ impl Line for Taps {
     }
 
     fn put_body(&self, draft: &mut Draft) {
-        (self.noise() as usize).put(draft);
+        self.noise().put(draft);
         put_list(draft, b") (taps", self.taps());
     }
 }
@@ -41,7 +41,7 @@ impl Line for Table {
     }
 
     fn put_body(&self, draft: &mut Draft) {
-        (self.noise() as usize).put(draft);
+        self.noise().put(draft);
         put_after(draft, b") (memory ", &self.memory());
         put_list(draft, b") (entries", self.entries());
     }

@@ -19,6 +19,16 @@ impl Put for usize {
     }
 }
 
+impl Put for u32 {
+    ghost text = { decimal };
+
+    ghost most = { 10 };
+
+    fn put(&self, draft: &mut Draft) {
+        put_number(draft, *self);
+    }
+}
+
 impl Put for i32 {
     ghost text = { signed_decimal };
 

@@ -8,7 +8,7 @@ use crate::draft::Draft;
 use itoa::{Buffer, Integer};
 
 /// What can be put into a draft.
-pub trait Put {
+pub(crate) trait Put {
     ghost text: { Self → List ℕ };
 
     ghost most: { ℕ };
