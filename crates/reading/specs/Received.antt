@@ -30,6 +30,13 @@ pub record Begun {C : Type 0} {G : Ghosts C} (m : Meaning) (w : Receiver C G) : 
   pub backward : w.burst.marks.backward ≡ w.burst.count
   pub sound : Sound m w.burst
 
+-- the same by what its own channel means, and that it stays so
+abbrev pub HasBegun : {C : Type 0} {G : Ghosts C} → (C → Meaning) → Receiver C G → Type 0
+HasBegun mean w = Begun (mean w.channel) w
+
+abbrev pub StaysBegun : {C : Type 0} {G : Ghosts C} → (C → Meaning) → Receiver C G → Receiver C G → Type 0
+StaysBegun mean before after = HasBegun mean before → HasBegun mean after
+
 -- a receiver of a channel at a depth, without places, or the refusal of the depth
 pub record Received {C : Type 0} {G : Ghosts C} (m : Meaning) (channel : C) (depth : ℕ) (w : Receiver C G) : Type 0 where
   pub channel_is : w.channel ≡ channel

@@ -2,7 +2,7 @@
 ghost use Rattle.std.specs.Prelude.{◌≡◌, ℕ, ◌<◌, ◌≤◌, length, OnOk};
 ghost use Rattle.forms.specs.Lines.{priors_in};
 ghost use Rattle.reading.specs.Lines.{At, AtLine};
-ghost use Rattle.reading.specs.Received.{state_of, Begun, AddsPlace};
+ghost use Rattle.reading.specs.Received.{state_of, StaysBegun, AddsPlace};
 
 use crate::heads::repeated;
 use crate::place::place_of;
@@ -16,7 +16,7 @@ use text::{Cause, Fault, Malformed};
 fn add_place<C: Spelled>(receiver: &mut Receiver<C>, place: &PlaceLine) -> Result<(), Cause>
     requires { length (priors_in place.now) ≤ 4 }
     ensures does { (n : ℕ) → AddsPlace C.Spelled.rule C.Spelled.form n place.now receiver.old receiver.new result }
-    ensures begun { OnOk result (Begun (C.meaning receiver.old.channel) receiver.old → Begun (C.meaning receiver.new.channel) receiver.new) }
+    ensures begun { OnOk result (StaysBegun C.meaning receiver.old receiver.new) }
 {
     if place.priors().len() != C::alphabet() {
         return Err(Cause::Text(Malformed::NotAForm));
@@ -29,7 +29,7 @@ fn add_place<C: Spelled>(receiver: &mut Receiver<C>, place: &PlaceLine) -> Resul
 fn add_said<C: Spelled>(receiver: &mut Receiver<C>, line: &[u8]) -> Result<(), Cause>
     requires { 0 < length line.now }
     ensures does { (n : ℕ) → At C.Spelled.rule n (state_of C.Spelled.form receiver.old) line.now (λ _. state_of C.Spelled.form receiver.new) result }
-    ensures begun { OnOk result (Begun (C.meaning receiver.old.channel) receiver.old → Begun (C.meaning receiver.new.channel) receiver.new) }
+    ensures begun { OnOk result (StaysBegun C.meaning receiver.old receiver.new) }
 {
     let line = read_line(line)?;
     match line {
@@ -47,7 +47,7 @@ pub(crate) fn add_line<C: Spelled>(
 ) -> Result<(), Fault>
     requires { 0 < length line.now }
     ensures does { AtLine C.Spelled.rule number (state_of C.Spelled.form receiver.old) line.now (λ _. state_of C.Spelled.form receiver.new) result }
-    ensures begun { OnOk result (Begun (C.meaning receiver.old.channel) receiver.old → Begun (C.meaning receiver.new.channel) receiver.new) }
+    ensures begun { OnOk result (StaysBegun C.meaning receiver.old receiver.new) }
 {
     add_said(receiver, line).map_err(|cause| cause.at(number))
 }

@@ -1,6 +1,6 @@
 //! Reading both heads of a text.
 ghost use Rattle.std.specs.Prelude.{IfOk};
-ghost use Rattle.reading.specs.Received.{Begun, ReadsHeads};
+ghost use Rattle.reading.specs.Received.{HasBegun, ReadsHeads};
 
 use crate::first::First;
 use crate::heads::read_first;
@@ -15,7 +15,7 @@ pub(crate) fn read_heads<C: Spelled + Drop>(
     second: &[u8],
 ) -> Result<Receiver<C>, Fault>
     ensures does { ReadsHeads C.Spelled.rule C.Spelled.form first.now second.now result }
-    ensures begun { IfOk result (λ w. Begun (C.meaning w.channel) w) }
+    ensures begun { IfOk result (HasBegun C.meaning) }
 {
     match read_first::<C>(first).map_err(|cause| cause.at(1))? {
         First::Channel(channel) => read_depth(channel, second).map_err(|cause| cause.at(2)),

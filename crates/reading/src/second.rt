@@ -1,7 +1,7 @@
 //! Reading the second head of a text.
 ghost use Rattle.std.specs.Prelude.{◌≡◌, IfOk};
 ghost use Rattle.reading.specs.Lines.{At, AtLine, ReadsChannel, ReadsSecond};
-ghost use Rattle.reading.specs.Received.{state_of, Receives, ReceivesFirst, Begun};
+ghost use Rattle.reading.specs.Received.{state_of, Receives, ReceivesFirst, HasBegun};
 ghost use Rattle.reading.specs.Steps.{tuned, deep, depth_of};
 
 use crate::heads::repeated;
@@ -30,7 +30,7 @@ fn receive<C: Spelled + Drop>(channel: C, depth: i32) -> Result<Receiver<C>, Ref
 /// The depth line after a channel line, and the receiver of both.
 pub(crate) fn read_depth<C: Spelled + Drop>(channel: C, line: &[u8]) -> Result<Receiver<C>, Cause>
     ensures does { At C.Spelled.rule 2 (tuned (C.Spelled.form channel)) line.now (state_of C.Spelled.form) result }
-    ensures begun { IfOk result (λ w. Begun (C.meaning w.channel) w) }
+    ensures begun { IfOk result (HasBegun C.meaning) }
 {
     let line = read_head_line(line)?;
     match line {
@@ -74,7 +74,7 @@ pub(crate) fn read_channel_line<C: Spelled + Drop>(
     line: &[u8],
 ) -> Result<Receiver<C>, Fault>
     ensures does { AtLine C.Spelled.rule 2 (deep depth) line.now (state_of C.Spelled.form) result }
-    ensures begun { IfOk result (λ w. Begun (C.meaning w.channel) w) }
+    ensures begun { IfOk result (HasBegun C.meaning) }
 {
     let channel: C = read_second(line)?;
     receive_first(channel, depth)

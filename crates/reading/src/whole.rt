@@ -1,6 +1,6 @@
 //! Reading a whole text.
 ghost use Rattle.std.specs.Prelude.{IfOk, OnOk};
-ghost use Rattle.reading.specs.Received.{Begun, ReadsNew, Reads};
+ghost use Rattle.reading.specs.Received.{HasBegun, ReadsNew, Reads};
 ghost use Rattle.reading.specs.Texts.{TextHasOneAnswer};
 
 use crate::both::read_heads;
@@ -12,7 +12,7 @@ use text::{Cause, Fault, MOST_BYTES, Malformed, cut_line};
 // The receiver of a text.
 fn read_new<C: Spelled + Drop>(text: &[u8]) -> Result<Receiver<C>, Fault>
     ensures reads { ReadsNew C.Spelled.rule C.Spelled.form text.now result }
-    ensures begun { IfOk result (λ w. Begun (C.meaning w.channel) w) }
+    ensures begun { IfOk result (HasBegun C.meaning) }
     ensures one { TextHasOneAnswer }
 {
     if text.len() > MOST_BYTES {
@@ -29,7 +29,7 @@ fn read_new<C: Spelled + Drop>(text: &[u8]) -> Result<Receiver<C>, Fault>
 /// as it was.
 pub fn read_text<C: Spelled + Drop>(receiver: &mut Receiver<C>, text: &[u8]) -> Result<(), Fault>
     ensures reads { Reads C.Spelled.rule C.Spelled.form text.now receiver.old receiver.new result }
-    ensures begun { OnOk result (Begun (C.meaning receiver.new.channel) receiver.new) }
+    ensures begun { OnOk result (HasBegun C.meaning receiver.new) }
     ensures one { TextHasOneAnswer }
 {
     *receiver = read_new(text)?;
