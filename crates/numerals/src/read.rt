@@ -33,7 +33,7 @@ fn natural(text: &[u8]) -> Result<u32, NotANumber>
     let mut n: u32 = 0;
     for b in text {
         match *b {
-            b'0'..=b'9' => n = n * 10 + (*b - b'0') as u32,
+            b'0'..=b'9' => n = n * 10 + u32::from(*b - b'0'),
             _ => return Err(NotANumber::NotADigit),
         }
     }

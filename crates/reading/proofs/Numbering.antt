@@ -1,11 +1,11 @@
 -- Written priors, one number after another.
-use Rattle.std.proofs.Common.{◌≡◌, ℕ, zero, suc, ◌+◌, ◌<◌, ◌≤◌, Bool, true, false, ◌&&◌, ◌≢◌, List, [], ◌∷◌, length, get_or, take, set, pos, MatchBool, sym, refl, ap, ◌∙◌, subst, inl, inr, arith, length-set}
+use Rattle.std.proofs.Common.{◌≡◌, ℕ, zero, suc, ◌<◌, ◌≤◌, Bool, true, false, ◌&&◌, List, [], ◌∷◌, length, get_or, take, pos, MatchBool, sym, refl, ap, ◌∙◌, inl, inr, arith}
 use mathlib.Core.Path.{fun_ext}
 use mathlib.Core.HLevel.{is_prop→PathP}
 use native.Mathlib.Bridge.{le_prop}
 use native.Mathlib.Nat.{ℕ_set}
-use Rattle.std.proofs.lemmas.List.{get_or_past, get_or-set_same, get_or-set_other, take_all}
-use Rattle.std.proofs.lemmas.Bool.{cases_eq, cases_lt}
+use Rattle.std.proofs.lemmas.List.{get_or_past, take_all}
+use Rattle.std.proofs.lemmas.Bool.{cases_lt}
 use Rattle.std.proofs.lemmas.Bool.Decides.{nat_tests}
 use Rattle.burst.specs.Places.{priors_allowed}
 use Rattle.burst.specs.declared.priors.Priors.{Priors}
@@ -51,35 +51,6 @@ pub record Numbered (ps : List Prior) (i : ℕ) (numbers : List ℕ) : Type 0 wh
   pub left : (j : ℕ) → i ≤ j → get_or numbers j 0 ≡ 0
   pub four : length numbers ≡ 4
 
-zeros : (j : ℕ) → ◌≡◌ {A = ℕ} (get_or (0 ∷ (0 ∷ (0 ∷ (0 ∷ [])))) j 0) 0
-zeros zero = refl
-zeros (suc zero) = refl
-zeros (suc (suc zero)) = refl
-zeros (suc (suc (suc zero))) = refl
-zeros (suc (suc (suc (suc j)))) = refl
-
-pub none_numbered : (ps : List Prior) → Numbered ps 0 (0 ∷ (0 ∷ (0 ∷ (0 ∷ []))))
-none_numbered ps = record { fit = refl; done = λ j h. absurd (omega arith); left = λ j h. zeros j; four = refl }
-
-pub one_numbered :
-    (ps : List Prior) (i : ℕ) (numbers : List ℕ) (n : ℕ) → i < length ps → length ps ≤ 4 → Numbered ps i numbers
-    → (prior_fits (written ps i) ≡ true) × (n ≡ number_of_prior (written ps i)) → Numbered ps (i + 1) (set numbers i n)
-one_numbered ps i numbers n lt few g (fits, is) =
-    let next : suc i ≡ i + 1 = omega arith in
-    let here : get_or (set numbers i n) i 0 ≡ n = get_or-set_same numbers i n 0 (omega (arith, g.four)) in
-    record {
-      fit = ap (λ k. all_fit (take k ps)) (sym next) ∙ more ps i lt g.fit fits;
-      done = λ j h. at_most j h here;
-      left = λ j h. let other : j ≢ i = λ e. omega arith in get_or-set_other numbers i j n 0 other ∙ g.left j (omega arith);
-      four = simp length-set g.four;
-    }
-  where
-    at_most : (j : ℕ) → j < i + 1 → get_or (set numbers i n) i 0 ≡ n → get_or (set numbers i n) j 0 ≡ number_of_prior (written ps j)
-    at_most j h here = elim (cases_eq j i) [
-      | inl same ↦ ap (λ k. get_or (set numbers i n) k 0) same ∙ here ∙ is ∙ ap (λ k. number_of_prior (written ps k)) (sym same)
-      | inr other ↦ get_or-set_other numbers i j n 0 other ∙ g.done j (omega arith)
-    ]
-
 four_are : (xs : List ℕ) (a b c d : ℕ) → length xs ≡ 4 → get_or xs 0 0 ≡ a → get_or xs 1 0 ≡ b → get_or xs 2 0 ≡ c → get_or xs 3 0 ≡ d → xs ≡ a ∷ (b ∷ (c ∷ (d ∷ [])))
 four_are (v ∷ (w ∷ (x ∷ (y ∷ [])))) a b c d l p q r s = cc
 four_are [] a b c d l p q r s = absurd (omega arith)
@@ -101,9 +72,6 @@ all_numbered ps i numbers p le g e = (
       | inl lt ↦ g.done j lt
       | inr ge ↦ g.left j ge ∙ sym (ap number_of_prior (get_or_past ps j (Number (pos 0)) (omega arith)))
     ]
-
-pub hands_written : (ps : List Prior) (p : Priors) → (all_fit ps ≡ true) × (p ≡ priors_of ps) → Hands ps p
-hands_written ps p (fit, is) = subst (λ b. MatchBool b (p ≡ priors_of ps) (p.numbers ≡ 65535 ∷ (65535 ∷ (65535 ∷ (65535 ∷ []))))) (sym fit) is
 
 -- the refusal of what is handed on is that of what is written
 broken : (symbols : ℕ) (p : Priors) → p.numbers ≡ 65535 ∷ (65535 ∷ (65535 ∷ (65535 ∷ []))) → priors_allowed symbols p ≡ false

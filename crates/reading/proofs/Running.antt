@@ -2,7 +2,7 @@
 use Rattle.std.proofs.Common.{◌≡◌, ℕ, ◌+◌, ◌<◌, ◌≤◌, List, [], ◌∷◌, ◌++◌, length, Ok, Err, Result, sym, refl, ap, ◌∙◌, subst, inl, inr, append_assoc, arith, length-append}
 use Rattle.std.specs.List.{flat_map, AllByRecursion}
 use Rattle.std.proofs.ByRecursion.{All-push}
-use Rattle.std.proofs.lemmas.List.{flat_map_more, length_push, nil_from_length}
+use Rattle.std.proofs.lemmas.List.{flat_map_more, length_push}
 use Rattle.forms.specs.Forms.{Form, text_of, Lawful}
 use Rattle.text.specs.Cutting.{CutsLine}
 use Rattle.text.specs.Kinds.{Begins}
@@ -87,12 +87,6 @@ so_blamed k start s text n t rest b g h =
       run = g.run;
       ends = subst (λ m. Blames k m t rest b) g.counted h;
     }
-
-pub so_all :
-    (k : Rule) (start : ℕ) (s : State) (text : List ℕ) (n : ℕ) (t : State) (rest : List ℕ) → SoFar k start s text n t rest → length rest ≡ 0 → IsReady t
-    → ReadsFrom k start s text (Ok t)
-so_all k start s text n t rest g none ready =
-    record { forms = g.forms; last = t; rest = rest; lawful = g.lawful; parts = g.parts; run = g.run; ends = (nil_from_length rest none, refl, ready) }
 
 -- one line and then the rest
 pub then_rest :

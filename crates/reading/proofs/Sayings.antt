@@ -1,24 +1,22 @@
 -- What a line says, and what that does.
-use Rattle.std.proofs.Common.{◌≡◌, ℕ, cond, List, [], ℤ, Some, None, Ok, Err, Result, sym, refl, ap, ◌∙◌, subst, inr, arith, MatchResult}
-use Rattle.forms.specs.Forms.{Form, taps_form, table_form, code_form, depth_form, place_form, head_of, text_of, Lawful}
+use Rattle.std.proofs.Common.{◌≡◌, ℕ, List, [], ℤ, Some, None, Ok, Err, Result, sym, refl, ap, ◌∙◌, subst, inr, arith, MatchResult}
+use Rattle.forms.specs.Forms.{Form, taps_form, table_form, code_form, depth_form, place_form, text_of, Lawful}
 use Rattle.forms.specs.Lines.{said, held, priors_in, IsForm}
 use Rattle.forms.specs.declared.line.Line.{Line}
 use Rattle.forms.specs.declared.line.Line.TheVariants.{Taps, Table, Code, Depth, Place}
 use Rattle.forms.specs.declared.line.PlaceLine.{PlaceLine}
 use Rattle.forms.specs.declared.prior.Prior.{Prior}
-use Rattle.numerals.specs.Numbers.{SevenDigits}
 use Rattle.channel.specs.Meaning.{Meaning}
 use Rattle.channel.specs.declared.Channel.{Ghosts}
 use Rattle.receiver.specs.Bursts.{places_of}
 use Rattle.receiver.specs.Standing.{depth_refusal}
 use Rattle.receiver.specs.declared.receiver.Receiver.{Receiver}
-use Rattle.text.specs.Kinds.{kind_of}
 use Rattle.text.specs.declared.fault.Cause.{Cause}
-use Rattle.text.specs.declared.fault.Layer.TheVariants.{Text as ByText, Receiver as ByReceiver}
-use Rattle.kinds.specs.Rules.{Rule, Told, told_by, is_kind, line_refusal}
+use Rattle.text.specs.declared.fault.Layer.TheVariants.{Receiver as ByReceiver}
+use Rattle.kinds.specs.Rules.{Rule, told_by, line_refusal}
 use Rattle.reading.specs.Lines.{Does, ReadsChannel}
 use Rattle.reading.specs.Received.{state_of, Received}
-use Rattle.reading.specs.Steps.{Blame, State, bare, tuned, deep, ready, unless, received, tried, repeated, depth_of, Saying, a_channel, a_depth, a_place, saying, first, after_channel, after_depth, after_heads, step}
+use Rattle.reading.specs.Steps.{Blame, State, bare, tuned, deep, ready, unless, received, tried, depth_of, Saying, a_channel, a_place, saying, first, after_channel, after_depth, after_heads, step}
 
 -- a line does what it says
 abbrev pub step_by : Rule → ℕ → State → Saying → Result State Blame
@@ -39,25 +37,12 @@ pub does_say :
 does_say k n s text line i w r e h =
     record { form = i.form; lawful = i.lawful; text_is = i.text_is; does = step_is k n s i.form ∙ ap (step_by k n s) e ∙ h }
 
--- what is said of a form is said of it whole, but for its lists
-held_depth : (z : ℤ) (f : Form) → depth_form z ≡ held f → f ≡ depth_form z
-held_depth z (depth_form d) e = let same : z ≡ d = cc in ap depth_form (sym same)
-held_depth z (taps_form n ts) e = let y : ◌≡◌ {A = ℕ} 0 1 = cc in absurd (omega arith)
-held_depth z (table_form n m es) e = let y : ◌≡◌ {A = ℕ} 0 1 = cc in absurd (omega arith)
-held_depth z (code_form m x y) e = let w : ◌≡◌ {A = ℕ} 0 1 = cc in absurd (omega arith)
-held_depth z (place_form x y ps) e = let w : ◌≡◌ {A = ℕ} 0 1 = cc in absurd (omega arith)
-
 held_place : (x y : ℤ) (ps : List Prior) (f : Form) → place_form x y ps ≡ held f → f ≡ place_form x y ps
 held_place x y ps (place_form u v qs) e = sym e
 held_place x y ps (taps_form n ts) e = let w : ◌≡◌ {A = ℕ} 0 1 = cc in absurd (omega arith)
 held_place x y ps (table_form n m es) e = let w : ◌≡◌ {A = ℕ} 0 1 = cc in absurd (omega arith)
 held_place x y ps (code_form m u v) e = let w : ◌≡◌ {A = ℕ} 0 1 = cc in absurd (omega arith)
 held_place x y ps (depth_form d) e = let w : ◌≡◌ {A = ℕ} 0 1 = cc in absurd (omega arith)
-
-pub says_depth : (text : List ℕ) (line : Line) (i : IsForm text line) (z : ℤ) → line ≡ Depth z → (saying i.form ≡ a_depth z) × SevenDigits z
-says_depth text line i z e =
-    let is : i.form ≡ depth_form z = held_depth z i.form (ap said (sym e) ∙ i.says) in
-    (ap saying is, subst Lawful is i.lawful)
 
 pub says_place :
     (text : List ℕ) (line : Line) (i : IsForm text line) (p : PlaceLine) → line ≡ Place p
@@ -92,20 +77,6 @@ pub says_channel :
     → saying i.form ≡ a_channel i.form
 says_channel text line i no-depth no_place = channel_said line i.form i.says no-depth no_place
 
--- the first head
-pub first_taken :
-    {C : Type 0} (k : Rule) (form : C → Form) (text : List ℕ) (line : Line) (i : IsForm text line) (c : C) → saying i.form ≡ a_channel i.form
-    → (line_refusal k i.form ≡ None) × (form c ≡ i.form) → Does k 1 bare text (Ok (tuned (form c)))
-first_taken k form text line i c e (none, is) =
-    does_say k 1 bare text line i (a_channel i.form) (Ok (tuned (form c))) e
-    (ap (λ o. unless o 1 (Ok (tuned i.form))) none ∙ ap (λ f. Ok (tuned f)) (sym is))
-
-pub first_refused :
-    (k : Rule) (text : List ℕ) (line : Line) (i : IsForm text line) (told : Told) → saying i.form ≡ a_channel i.form
-    → line_refusal k i.form ≡ Some told → Does k 1 bare text (Err (record { line = 1; told = told }))
-first_refused k text line i told e some =
-    does_say k 1 bare text line i (a_channel i.form) (Err (record { line = 1; told = told })) e (ap (λ o. unless o 1 (Ok (tuned i.form))) some)
-
 -- both heads
 pub tried_taken :
     {C : Type 0} {G : Ghosts C} (k : Rule) (n : ℕ) (f : Form) (z : ℤ) (m : Meaning) (q : ℕ) (form : C → Form) (c : C) (w : Receiver C G) → m ≡ k.meaning f → q ≡ depth_of z → form c ≡ f
@@ -124,20 +95,6 @@ pub tried_refused :
 tried_refused k n f z m q number mk qz some =
     let is : depth_refusal (k.meaning f) (depth_of z) ≡ Some number = ap (λ l. depth_refusal l (depth_of z)) (sym mk) ∙ ap (depth_refusal m) (sym qz) ∙ some in
     ap (λ o. unless (received o) n (Ok (ready f (depth_of z) []))) is
-
-pub repeated_is :
-    (k : Rule) (n : ℕ) (line : Line) (f : Form) (told : Told) → said line ≡ held f → told ≡ (ByText, cond (is_kind k.kind (kind_of (head_of (said line)))) 13 12)
-    → repeated k n f ≡ Err (record { line = n; told = told })
-repeated_is k n line f told e is =
-    let same : head_of (said line) ≡ head_of f = ap head_of e ∙ held_head f in
-    ap (λ t. Err (record { line = n; told = t })) (sym (is ∙ ap (λ h. (ByText, cond (is_kind k.kind (kind_of h)) 13 12)) same))
-  where
-    held_head : (f : Form) → head_of (held f) ≡ head_of f
-    held_head (taps_form n ts) = refl
-    held_head (table_form n m es) = refl
-    held_head (code_form m x y) = refl
-    held_head (depth_form d) = refl
-    held_head (place_form x y ps) = refl
 
 pub after_depth_taken :
     (k : Rule) (z : ℤ) (text : List ℕ) (f : Form) (r : Result State Blame) → Lawful f → text ≡ text_of f → saying f ≡ a_channel f → line_refusal k f ≡ None → tried k 1 f z ≡ r

@@ -1,5 +1,5 @@
 -- What the readers of single lines answer.
-use Rattle.std.specs.Prelude.{◌≡◌, ℕ, ◌<◌, ◌⊎◌, List, length, ℤ, None, Ok, Err, Result, ◌≢◌}
+use Rattle.std.specs.Prelude.{◌≡◌, ℕ, ◌<◌, ◌⊎◌, List, length, ℤ, None, Ok, Err, Result, MatchResult, ◌≢◌}
 use Rattle.forms.specs.Forms.{Form, text_of, Lawful}
 use Rattle.text.specs.declared.fault.Cause.{Cause}
 use Rattle.text.specs.declared.fault.Fault.{Fault}
@@ -46,3 +46,8 @@ abbrev pub ReadsChannel : {C : Type 0} → Rule → (C → Form) → List ℕ �
 ReadsChannel k form line (Ok c) =
     (f : Form) × Lawful f × (line ≡ text_of f) × (saying f ≡ a_channel f) × (line_refusal k f ≡ None) × (form c ≡ f)
 ReadsChannel k form line (Err e) = (depth : ℤ) → Outcome k 2 (deep depth) line (Err (record { line = 2; told = told_by e }))
+
+-- the same, where a fault carries the number of the line
+abbrev pub ReadsSecond : {C : Type 0} → Rule → (C → Form) → List ℕ → Result C Fault → Type 0
+ReadsSecond {C} k form line r =
+    MatchResult r (λ c. ReadsChannel k form line (Ok c)) (λ fault. (fault.line ≡ 2) × ReadsChannel {C = C} k form line (Err fault.cause))

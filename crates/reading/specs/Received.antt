@@ -12,6 +12,8 @@ use Rattle.forms.specs.Lines.{priors_in}
 use Rattle.forms.specs.declared.line.PlaceLine.{PlaceLine}
 use Rattle.text.specs.declared.fault.Cause.{Cause}
 use Rattle.text.specs.declared.fault.Fault.{Fault}
+use Rattle.text.specs.declared.fault.Layer.TheVariants.{Receiver as ByReceiver}
+use Rattle.text.specs.Faults.{layer_of, number_of as cause_number}
 use Rattle.kinds.specs.Rules.{Rule, told_by}
 use Rattle.reading.specs.Lines.{Does, Outcome, blame_of}
 use Rattle.reading.specs.Steps.{State, bare, ready, a_place, after_heads}
@@ -26,6 +28,10 @@ pub record Begun {C : Type 0} {G : Ghosts C} (w : Receiver C G) : Type 0 where
   pub forward : w.burst.marks.forward ≡ 0
   pub backward : w.burst.marks.backward ≡ w.burst.count
 
+-- a call leaves it so
+abbrev pub StaysBegun : {C : Type 0} {G : Ghosts C} → Receiver C G → Receiver C G → Type 0
+StaysBegun before after = Begun before → Begun after
+
 -- a receiver of a channel at a depth, without places, or the refusal of the depth
 pub record Received {C : Type 0} {G : Ghosts C} (m : Meaning) (channel : C) (depth : ℕ) (w : Receiver C G) : Type 0 where
   pub channel_is : w.channel ≡ channel
@@ -37,6 +43,12 @@ pub record Received {C : Type 0} {G : Ghosts C} (m : Meaning) (channel : C) (dep
 abbrev pub Receives : {C : Type 0} {G : Ghosts C} → Meaning → C → ℕ → Result (Receiver C G) Refusal → Type 0
 Receives m channel depth (Ok w) = Received m channel depth w
 Receives m channel depth (Err e) = depth_refusal m depth ≡ Some (number_of e)
+
+-- the same, where the first line is blamed for the refusal of the depth that it gives
+abbrev pub ReceivesFirst : {C : Type 0} {G : Ghosts C} → Meaning → C → ℕ → Result (Receiver C G) Fault → Type 0
+ReceivesFirst m channel depth r =
+    MatchResult r (λ w. Received m channel depth w)
+    (λ fault. (fault.line ≡ 1) × (layer_of fault.cause ≡ ByReceiver) × (depth_refusal m depth ≡ Some (cause_number fault.cause)))
 
 -- what a place line does where both heads stand
 abbrev pub AddsPlace : {C X : Type 0} {G : Ghosts C} → Rule → (C → Form) → ℕ → PlaceLine → Receiver C G → Receiver C G → Result X Cause → Type 0

@@ -15,17 +15,10 @@ pub(crate) fn read_heads<C: Spelled + Drop>(
     second: &[u8],
 ) -> Result<Receiver<C>, Fault>
     ensures does { ReadsHeads C.Spelled.rule C.Spelled.form first.now second.now result }
-    ensures begun { IfOk result (λ w. Begun w) }
+    ensures begun { IfOk result Begun }
 {
-    let head = match read_first::<C>(first) {
-        Ok(head) => head,
-        Err(cause) => return Err(Fault { line: 1, cause }),
-    };
-    match head {
-        First::Channel(channel) => match read_depth(channel, second) {
-            Ok(receiver) => Ok(receiver),
-            Err(cause) => Err(Fault { line: 2, cause }),
-        },
+    match read_first::<C>(first).map_err(|cause| cause.at(1))? {
+        First::Channel(channel) => read_depth(channel, second).map_err(|cause| cause.at(2)),
         First::Depth(depth) => read_channel_line(depth, second),
     }
 }

@@ -12,12 +12,8 @@ fn prior_number(prior: Prior) -> Option<u16>
 {
     match prior {
         Prior::Barred => Some(Priors::BARRED),
-        Prior::Number(number) => {
-            if number < 0 || 65_534 < number {
-                return None;
-            }
-            Some(number as u16)
-        }
+        Prior::Number(number @ 0..=65_534) => Some(number as u16),
+        Prior::Number(_) => None,
     }
 }
 
@@ -27,6 +23,7 @@ fn written_priors(priors: &[Prior]) -> Option<Priors>
     ensures { MatchOption result (all_fit priors.now ≡ false) (λ p. (all_fit priors.now ≡ true) × (p ≡ priors_of priors.now)) }
 {
     let mut numbers = [0; 4];
+    // By index: no invariant was found for `iter_mut` beside the priors, which says what the numbers are at a refusal.
     for (i, prior) in priors.iter().enumerate() {
         numbers[i] = prior_number(*prior)?;
     }
@@ -45,10 +42,7 @@ fn handed_priors(priors: &[Prior]) -> Priors
     requires { length priors.now ≤ 4 }
     ensures { Hands priors.now result }
 {
-    match written_priors(priors) {
-        Some(priors) => priors,
-        None => broken_priors(),
-    }
+    written_priors(priors).unwrap_or(broken_priors())
 }
 
 /// The place that a line says, to be added. A written prior that does not fit breaks the rule of priors.

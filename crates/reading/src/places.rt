@@ -1,32 +1,19 @@
 //! Reading the places of a text.
 ghost use Rattle.std.specs.Prelude.{OnOk};
-ghost use Rattle.reading.specs.Received.{state_of, Begun, ReadsPlaces};
+ghost use Rattle.reading.specs.Received.{state_of, StaysBegun, ReadsPlaces};
 
 use crate::add::add_line;
 use kinds::Spelled;
 use receiver::Receiver;
-use text::{Fault, cut_line};
+use text::{Fault, Lines};
 
 /// The lines from the third on, where both heads stand: places, each added in turn.
 pub(crate) fn read_places<C: Spelled>(receiver: &mut Receiver<C>, text: &[u8]) -> Result<(), Fault>
     ensures does { ReadsPlaces C.Spelled.rule C.Spelled.form text.now receiver.old receiver.new result }
-    ensures begun { OnOk result (Begun receiver.old → Begun receiver.new) }
+    ensures begun { OnOk result (StaysBegun receiver.old receiver.new) }
 {
-    let mut number: usize = 3;
-    let mut rest = text;
-    while !rest.is_empty() {
-        let (line, after) = cut_line(rest);
-        match add_line(receiver, line) {
-            Ok(()) => {}
-            Err(cause) => {
-                return Err(Fault {
-                    line: number,
-                    cause,
-                });
-            }
-        }
-        number += 1;
-        rest = after;
+    for (i, line) in Lines::of(text).enumerate() {
+        add_line(receiver, line, i + 3)?;
     }
     Ok(())
 }

@@ -12,14 +12,11 @@ use text::{Cause, Fault, MOST_BYTES, Malformed, cut_line};
 // The receiver of a text.
 fn read_new<C: Spelled + Drop>(text: &[u8]) -> Result<Receiver<C>, Fault>
     ensures reads { ReadsNew C.Spelled.rule C.Spelled.form text.now result }
-    ensures begun { IfOk result (λ w. Begun w) }
+    ensures begun { IfOk result Begun }
     ensures one { TextHasOneAnswer }
 {
     if text.len() > MOST_BYTES {
-        return Err(Fault {
-            line: 1,
-            cause: Cause::Text(Malformed::TooLong),
-        });
+        return Err(Cause::Text(Malformed::TooLong).at(1));
     }
     let (first, rest) = cut_line(text);
     let (second, places) = cut_line(rest);

@@ -4,28 +4,25 @@ ghost use Rattle.report.specs.Shown.{best_text, burst_text};
 
 use std::fmt;
 
-/// The best of a burst, in eighths, or that it has none.
-#[derive(Clone, Copy)]
-pub enum Best {
-    Eighths(u32),
-    Dead,
-}
-
-/// What is printed of a whole burst: how many places it has, its best, and how many columns were worked.
+/// What is printed of a whole burst: how many places it has, its best in eighths, if it has one, and how many columns were worked.
 #[derive(Clone, Copy)]
 pub struct Burst {
     pub places: usize,
-    pub best: Best,
+    pub best: Option<u32>,
     pub columns: usize,
 }
 
+// Prints the best of a burst.
+#[derive(Clone, Copy)]
+struct Best(Option<u32>);
+
 impl fmt::Display for Best {
-    ghost output = { λ b. Some (best_text b) };
+    ghost output = { λ b. Some (best_text b.0) };
 
     fn fmt<W: fmt::Write>(&self, f: &mut fmt::Formatter<W>) -> fmt::Result {
-        match self {
-            Best::Eighths(best) => write!(f, "(best {best})"),
-            Best::Dead => write!(f, "(dead)"),
+        match self.0 {
+            Some(best) => write!(f, "(best {best})"),
+            None => write!(f, "(dead)"),
         }
     }
 }
@@ -35,7 +32,7 @@ impl fmt::Display for Burst {
 
     fn fmt<W: fmt::Write>(&self, f: &mut fmt::Formatter<W>) -> fmt::Result {
         let places = self.places;
-        let best = self.best;
+        let best = Best(self.best);
         let columns = self.columns;
         write!(f, "(burst (places {places}) {best} (columns {columns}))")
     }

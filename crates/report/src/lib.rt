@@ -3,6 +3,7 @@
 
 mod burst;
 mod read;
+mod spaced;
 
-pub use burst::{Best, Burst};
-pub use read::{Costs, Leans, Read};
+pub use burst::Burst;
+pub use read::Read;

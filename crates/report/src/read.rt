@@ -1,63 +1,28 @@
 //! The line of a place.
 ghost use Rattle.std.specs.Prelude.{Some};
-ghost use Rattle.report.specs.Shown.{costs_text, leans_text, text_read};
+ghost use Rattle.report.specs.Shown.{text_read};
 
+use crate::spaced::Spaced;
 use cost::{Cost, Lean};
 use std::fmt;
 
-/// The costs of two or four values, from 0 on.
+/// What is printed of a place: its number, the symbol shown, and the costs of its values from 0 on and their leans from 1 on.
 #[derive(Clone, Copy)]
-pub enum Costs {
-    Two(Cost, Cost),
-    Four(Cost, Cost, Cost, Cost),
-}
-
-/// The leans of two or four values, from 1 on.
-#[derive(Clone, Copy)]
-pub enum Leans {
-    Two(Lean),
-    Four(Lean, Lean, Lean),
-}
-
-/// What is printed of a place: its number, the symbol shown, and the costs and leans of its values.
-#[derive(Clone, Copy)]
-pub struct Read {
+pub struct Read<'a> {
     pub at: usize,
     pub shown: u8,
-    pub costs: Costs,
-    pub leans: Leans,
+    pub costs: &'a [Cost],
+    pub leans: &'a [Lean],
 }
 
-impl fmt::Display for Costs {
-    ghost output = { λ v. Some (costs_text v) };
-
-    fn fmt<W: fmt::Write>(&self, f: &mut fmt::Formatter<W>) -> fmt::Result {
-        match self {
-            Costs::Two(a, b) => write!(f, "{a} {b}"),
-            Costs::Four(a, b, c, d) => write!(f, "{a} {b} {c} {d}"),
-        }
-    }
-}
-
-impl fmt::Display for Leans {
-    ghost output = { λ v. Some (leans_text v) };
-
-    fn fmt<W: fmt::Write>(&self, f: &mut fmt::Formatter<W>) -> fmt::Result {
-        match self {
-            Leans::Two(a) => write!(f, "{a}"),
-            Leans::Four(a, b, c) => write!(f, "{a} {b} {c}"),
-        }
-    }
-}
-
-impl fmt::Display for Read {
+impl fmt::Display for Read<'_> {
     ghost output = { λ r. Some (text_read r) };
 
     fn fmt<W: fmt::Write>(&self, f: &mut fmt::Formatter<W>) -> fmt::Result {
         let at = self.at;
         let shown = self.shown;
-        let costs = self.costs;
-        let leans = self.leans;
+        let costs = Spaced(self.costs);
+        let leans = Spaced(self.leans);
         write!(
             f,
             "(read (at {at}) (shown {shown}) (costs {costs}) (lean {leans}))"

@@ -83,11 +83,13 @@ fn show(rt: &HostRuntime, channel: Taps, calls: &[Call], further: &[Call]) -> an
     );
     tell(rt, "worked", told.worked)?;
     tell(rt, "new", told.renewed)?;
-    let mut agree = true;
     for pair in heard.iter().take(told.heard) {
         say(rt, pair.one)?;
-        agree = agree && pair.one == pair.other;
     }
+    let agree = heard
+        .iter()
+        .take(told.heard)
+        .all(|pair| pair.one == pair.other);
     let asked = told.heard;
     println!(rt; "  equal answers to {asked} further calls: {agree}")?;
     print!(rt; "  bytes")?;

@@ -1,11 +1,14 @@
 -- The text of a form is one line, and a text is cut into lines in one way only.
-use Rattle.std.proofs.Common.{◌≡◌, ℕ, ◌+◌, ◌<◌, Bool, true, not, ◌&&◌, eqb, List, [], ◌∷◌, ◌++◌, length, get_or, take, drop, ℤ, codes, sym, refl, ap, ◌∙◌, subst, inl, inr, append_assoc, arith, length-append}
+use Rattle.std.proofs.Common.{◌≡◌, ℕ, zero, suc, ◌+◌, ◌<◌, ◌≤◌, Bool, true, false, not, ◌&&◌, cond, eqb, List, [], ◌∷◌, ◌++◌, length, get_or, take, drop, ℤ, codes, Some, None, sym, refl, ap, ◌∙◌, subst, inl, inr, append_assoc, arith, length-append}
+use Rattle.std.specs.Prelude.{◌==◌, nat_lt, position}
 use Rattle.std.specs.Int.{IsInRange}
 use Rattle.std.specs.Fmt.{signed_decimal}
-use Rattle.std.specs.List.{flat_map, AllByRecursion}
+use Rattle.std.specs.List.{flat_map, AllByRecursion, position_or_len}
 use Rattle.std.proofs.ByRecursion.{All-append, All-drop}
 use Rattle.std.proofs.lemmas.List.Prefix.{front_rest}
-use Rattle.std.proofs.lemmas.List.{take_more, append-nil, nil_from_length}
+use Rattle.std.proofs.lemmas.List.{take_more, take_all, append-nil, nil_from_length}
+use Rattle.std.proofs.lemmas.List.Quantifiers.{position-Some}
+use Rattle.std.proofs.lemmas.List.Sums.{fails_before_first}
 use Rattle.std.proofs.lemmas.Bool.Decides.{nat_tests}
 use Rattle.numerals.specs.Numbers.{SevenDigits}
 use Rattle.numerals.proofs.Reading.{all_of_number}
@@ -20,10 +23,35 @@ use Rattle.forms.proofs.Bodies.{same_form}
 use Rattle.forms.specs.Words.{same_cut}
 use Rattle.text.specs.Cutting.{NoFeed, WholeLine, FirstLine, CutsLine}
 
--- a loop over a text finds the first line feed
-pub feed_at :
-    (text : List ℕ) (i : ℕ) → i < length text → AllByRecursion NoFeed (take i text) → get_or text i 0 ≡ 10 → FirstLine (take (i + 1) text) (drop (i + 1) text)
-feed_at text i h p e = inl (take i text, take_more text i 0 h ∙ ap (λ (c : ℕ). take i text ++ c ∷ []) e, p)
+-- the bytes before a place where none is a line feed
+no_feed_before : (text : List ℕ) (i : ℕ) → i ≤ length text → ((k : ℕ) → k < i → (get_or text k 0 == 10) ≡ false) → AllByRecursion NoFeed (take i text)
+no_feed_before text zero h none = tt
+no_feed_before [] (suc i) h none = absurd (omega arith)
+no_feed_before (c ∷ text) (suc i) h none = (λ e. other c (none zero (omega arith)) e, no_feed_before text i (omega arith) (λ k l. none (suc k) (omega arith)))
+  where
+    other : (c : ℕ) → (c == 10) ≡ false → c ≡ 10 → ⊥
+    other c h e = grind (arith, nat_tests)
+
+-- the first line ends after the first line feed
+pub feed_at : (text : List ℕ) (i : ℕ) → position (λ c. c == 10) text ≡ Some i → FirstLine (take (i + 1) text) (drop (i + 1) text)
+feed_at text i e =
+    let first = position-Some (λ c. c == 10) text i 0 e in
+    inl (take i text, take_more text i 0 first.0 ∙ ap (λ (c : ℕ). take i text ++ c ∷ []) (is_feed (get_or text i 0) first.1), no_feed_before text i (omega (arith, first.0)) first.2)
+  where
+    is_feed : (c : ℕ) → (c == 10) ≡ true → c ≡ 10
+    is_feed c h = grind (arith, nat_tests)
+
+-- or there is none
+pub no_feed_in : (text : List ℕ) → position (λ c. c == 10) text ≡ None → AllByRecursion NoFeed text
+no_feed_in text e =
+    let all : length text ≤ position_or_len (λ c. c == 10) text = past (nat_lt (position_or_len (λ c. c == 10) text) (length text)) refl e in
+    subst (AllByRecursion NoFeed) (take_all (length text) text (omega arith))
+    (no_feed_before text (length text) (omega arith) (λ k l. fails_before_first (λ c. c == 10) text k 0 (omega (arith, all))))
+  where
+    past : (b : Bool) → nat_lt (position_or_len (λ c. c == 10) text) (length text) ≡ b → cond b (Some (position_or_len (λ c. c == 10) text)) None ≡ None
+        → length text ≤ position_or_len (λ c. c == 10) text
+    past true lt e = let z : ◌≡◌ {A = ℕ} 0 1 = cc in absurd (omega arith)
+    past false lt e = grind (arith, nat_tests)
 
 -- two texts that begin with whole lines
 pub same_line : (v w r s : List ℕ) → WholeLine v → WholeLine w → v ++ r ≡ w ++ s → (v ≡ w) × (r ≡ s)

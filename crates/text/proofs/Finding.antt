@@ -3,11 +3,9 @@ use Rattle.std.proofs.Common.{◌≡◌, ℕ, ◌+◌, ◌≤◌, ◌⊎◌, Lis
 use Rattle.std.specs.List.{flat_map, AllByRecursion}
 use Rattle.std.proofs.lemmas.List.{append-nil}
 use Rattle.std.proofs.lemmas.Bool.{cases_lt}
-use Rattle.forms.specs.Forms.{Form, taps_form, table_form, code_form, depth_form, place_form, head_of, text_of, Lawful}
-use Rattle.forms.specs.Lines.{said, held, IsForm}
+use Rattle.forms.specs.Forms.{Form, head_of, text_of, Lawful}
 use Rattle.forms.specs.declared.head.Head.{Head}
 use Rattle.forms.specs.declared.head.Head.TheVariants.{Depth, Place}
-use Rattle.forms.specs.declared.line.Line.{Line}
 use Rattle.text.specs.declared.fault.Cause.{Cause}
 use Rattle.text.specs.declared.fault.Cause.TheVariants.{Text}
 use Rattle.text.specs.declared.fault.Fault.{Fault}
@@ -16,17 +14,6 @@ use Rattle.text.specs.declared.kind.Kind.{Kind}
 use Rattle.text.specs.Cutting.{CutsLine}
 use Rattle.text.specs.Kinds.{kind_of, Begins, NoForm, Misplaced, Blames, Found, KindHasOneAnswer, ReadsHead}
 use Rattle.text.proofs.Feeds.{same_start, some_form, first_is, none_left}
-
--- a line begins as the form that it was read from
-held_head : (f : Form) → head_of (held f) ≡ head_of f
-held_head (taps_form n ts) = refl
-held_head (table_form n m es) = refl
-held_head (code_form m x y) = refl
-held_head (depth_form d) = refl
-held_head (place_form x y ps) = refl
-
-pub read_head : (text : List ℕ) (line : Line) (k : IsForm text line) → head_of k.form ≡ head_of (said line)
-read_head text line k = sym (ap head_of k.says ∙ held_head k.form)
 
 -- the depth lines before the rest of a text
 pub record Before (text rest : List ℕ) (depths : List Form) : Type 0 where

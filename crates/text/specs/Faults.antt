@@ -4,6 +4,7 @@ use Rattle.channel.specs.Refusals as channel
 use Rattle.burst.specs.Refusals as receiver
 use Rattle.text.specs.declared.fault.Cause.{Cause}
 use Rattle.text.specs.declared.fault.Cause.TheVariants.{Text as OfText, Channel as OfChannel, Receiver as OfReceiver}
+use Rattle.text.specs.declared.fault.Fault.{Fault}
 use Rattle.text.specs.declared.fault.Layer.{Layer}
 use Rattle.text.specs.declared.fault.Layer.TheVariants.{Text, Channel, Receiver}
 use Rattle.text.specs.declared.fault.Malformed.{Malformed}
@@ -23,3 +24,7 @@ abbrev pub number_of : Cause → ℕ
 number_of (OfText why) = malformed_number why
 number_of (OfChannel refusal) = channel.number_of refusal
 number_of (OfReceiver refusal) = receiver.number_of refusal
+
+-- the fault with a cause at a line
+abbrev pub fault_at : ℕ → Cause → Fault
+fault_at line cause = record { line = line; cause = cause }

@@ -2,8 +2,10 @@
 use Rattle.std.specs.Prelude.{◌≡◌, ℕ, ◌+◌, ◌<◌, ◌≤◌, ◌⊎◌, List, [], ◌++◌, length, Some, None, Ok, Err, Option, Result, MatchResult, ◌≢◌}
 use Rattle.std.specs.List.{flat_map, AllByRecursion}
 use Rattle.forms.specs.Forms.{Form, head_of, text_of, Lawful}
+use Rattle.forms.specs.Lines.{IsForm}
 use Rattle.forms.specs.declared.head.Head.{Head}
 use Rattle.forms.specs.declared.head.Head.TheVariants.{Taps, Table, Code, Depth, Place}
+use Rattle.forms.specs.declared.line.Line.{Line}
 use Rattle.text.specs.declared.fault.Cause.{Cause}
 use Rattle.text.specs.declared.fault.Cause.TheVariants.{Text}
 use Rattle.text.specs.declared.fault.Fault.{Fault}
@@ -58,6 +60,12 @@ pub record FindsKind (text : List ℕ) (r : Result Kind Fault) : Type 0 where
 -- That leaves no choice.
 abbrev pub KindHasOneAnswer : Type 0
 KindHasOneAnswer = (text : List ℕ) (r s : Result Kind Fault) → FindsKind text r → FindsKind text s → r ≡ s
+
+-- What a line says where a head is wanted: it is read as a form; or it is no form; or there is none.
+abbrev pub ReadsHeadLine : List ℕ → Result Line Cause → Type 0
+ReadsHeadLine line (Ok l) = IsForm line l
+ReadsHeadLine line (Err cause) =
+    ((cause ≡ Text NotAForm) × (0 < length line) × ((f : Form) → Lawful f → line ≢ text_of f)) ⊎ ((cause ≡ Text Heads) × (length line ≡ 0))
 
 -- What one line is, where a channel line is lacking: a channel line of a kind, a depth line, or wrong.
 abbrev pub ReadsHead : List ℕ → Result (Option Kind) Cause → Type 0

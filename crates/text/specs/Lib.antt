@@ -1,4 +1,5 @@
 pub mod Cutting
 pub mod Faults
 pub mod Kinds
+pub mod Lines
 pub mod Shown

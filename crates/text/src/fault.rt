@@ -2,6 +2,7 @@
 ghost use Rattle.std.specs.Prelude.{◌≡◌};
 ghost use Rattle.text.specs.declared.fault.Cause.TheVariants.{Text, Channel, Receiver};
 ghost use Rattle.text.specs.declared.fault.Malformed.TheVariants.{NotAForm as Unformed};
+ghost use Rattle.text.specs.Faults.{fault_at};
 
 /// Which layer finds something wrong.
 #[derive(Clone, Copy, PartialEq, Eq, Debug)]
@@ -11,15 +12,15 @@ pub enum Layer {
     Receiver,
 }
 
-/// What is wrong with a text as such.
+/// What is wrong with a text as such, and its number.
 #[derive(Clone, Copy, PartialEq, Eq, Debug)]
 pub enum Malformed {
     /// A line is not a form.
-    NotAForm,
+    NotAForm = 12,
     /// A head is missing, repeated or misplaced.
-    Heads,
+    Heads = 13,
     /// There are more than 16,384 bytes.
-    TooLong,
+    TooLong = 14,
 }
 
 /// What is wrong: the text as such, or the refusal of a layer below.
@@ -35,6 +36,15 @@ pub enum Cause {
 pub struct Fault {
     pub line: usize,
     pub cause: Cause,
+}
+
+impl Cause {
+    /// The fault with this cause at a line.
+    pub fn at(self, line: usize) -> Fault
+        ensures { result ≡ fault_at line self }
+    {
+        Fault { line, cause: self }
+    }
 }
 
 impl From<channel::Refusal> for Cause {

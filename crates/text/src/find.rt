@@ -1,11 +1,12 @@
 //! Finding the kind of a text's channel.
-ghost use Rattle.std.specs.Prelude.{◌≡◌, length, MatchResult, nat_le};
+ghost use Rattle.std.specs.Prelude.{◌≡◌, length, nat_le};
 ghost use Rattle.text.specs.Kinds.{Found, FindsKind, KindHasOneAnswer, ReadsHead, ReadsHeadAt};
 
 use crate::fault::{Cause, Fault, Malformed};
+use crate::head::read_head_line;
 use crate::kind::Kind;
 use crate::lines::cut_line;
-use forms::{Line, read_line};
+use forms::Line;
 
 /// The greatest number of bytes of a text.
 pub const MOST_BYTES: usize = 16_384;
@@ -14,15 +15,10 @@ pub const MOST_BYTES: usize = 16_384;
 fn read_head(line: &[u8]) -> Result<Option<Kind>, Cause>
     ensures { ReadsHead line.now result }
 {
-    if line.is_empty() {
-        return Err(Cause::Text(Malformed::Heads));
-    }
-    match read_line(line)? {
-        Line::Taps(_) => Ok(Some(Kind::Taps)),
-        Line::Table(_) => Ok(Some(Kind::Table)),
-        Line::Code(_) => Ok(Some(Kind::Code)),
-        Line::Depth(_) => Ok(None),
+    let line = read_head_line(line)?;
+    match line {
         Line::Place(_) => Err(Cause::Text(Malformed::Heads)),
+        _ => Ok(Kind::of(&line)),
     }
 }
 
@@ -30,13 +26,7 @@ fn read_head(line: &[u8]) -> Result<Option<Kind>, Cause>
 fn read_head_at(line: &[u8], number: usize) -> Result<Option<Kind>, Fault>
     ensures { ReadsHeadAt number line.now result }
 {
-    match read_head(line) {
-        Ok(kind) => Ok(kind),
-        Err(cause) => Err(Fault {
-            line: number,
-            cause,
-        }),
-    }
+    read_head(line).map_err(|cause| cause.at(number))
 }
 
 // The kind, whatever the length.
@@ -50,10 +40,7 @@ fn find(text: &[u8]) -> Result<Kind, Fault>
     let (second, _) = cut_line(rest);
     match read_head_at(second, 2)? {
         Some(kind) => Ok(kind),
-        None => Err(Fault {
-            line: 2,
-            cause: Cause::Text(Malformed::Heads),
-        }),
+        None => Err(Cause::Text(Malformed::Heads).at(2)),
     }
 }
 
@@ -71,10 +58,7 @@ pub fn find_kind(text: &[u8]) -> Result<Kind, Fault>
     ensures one { KindHasOneAnswer }
 {
     if !short_enough(text) {
-        return Err(Fault {
-            line: 1,
-            cause: Cause::Text(Malformed::TooLong),
-        });
+        return Err(Cause::Text(Malformed::TooLong).at(1));
     }
     find(text)
 }

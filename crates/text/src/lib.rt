@@ -3,6 +3,7 @@
 
 mod fault;
 mod find;
+mod head;
 mod kind;
 mod lines;
 mod name;
@@ -10,5 +11,6 @@ mod show;
 
 pub use fault::{Cause, Fault, Layer, Malformed};
 pub use find::{MOST_BYTES, find_kind};
+pub use head::read_head_line;
 pub use kind::Kind;
-pub use lines::cut_line;
+pub use lines::{Lines, cut_line};

@@ -2,7 +2,7 @@
 ghost use Rattle.std.specs.Prelude.{◌≡◌};
 ghost use Rattle.text.specs.Faults.{layer_of, number_of};
 
-use crate::fault::{Cause, Fault, Layer, Malformed};
+use crate::fault::{Cause, Fault, Layer};
 
 impl Cause {
     /// The layer that found it.
@@ -21,9 +21,7 @@ impl Cause {
         ensures { result ≡ number_of self }
     {
         match self {
-            Cause::Text(Malformed::NotAForm) => 12,
-            Cause::Text(Malformed::Heads) => 13,
-            Cause::Text(Malformed::TooLong) => 14,
+            Cause::Text(why) => why as u8,
             Cause::Channel(refusal) => refusal.number(),
             Cause::Receiver(refusal) => refusal.number(),
         }

@@ -1,9 +1,9 @@
 //! What is printed, and what is written.
 use cost::{Cost, Lean};
-use report::{Best, Burst, Costs, Leans, Read};
+use report::{Burst, Read};
 use std::test::Fail;
 use text::{Cause, Fault};
-use writing::{TooShort, write_depth};
+use writing::{DepthLine, TooShort, write_line};
 
 #[test]
 fn leans_have_three_digits(rt: HostRuntime) -> Result<(), Fail> {
@@ -31,7 +31,7 @@ fn faults_name_line_layer_and_number(rt: HostRuntime) -> Result<(), Fail> {
 fn bursts_and_places_are_printed(rt: HostRuntime) -> Result<(), Fail> {
     let burst = Burst {
         places: 2,
-        best: Best::Dead,
+        best: None,
         columns: 4,
     };
     assert_eq!(rt;
@@ -41,8 +41,8 @@ fn bursts_and_places_are_printed(rt: HostRuntime) -> Result<(), Fail> {
     let read = Read {
         at: 0,
         shown: 1,
-        costs: Costs::Two(Cost::Eighths(10), Cost::Eighths(7)),
-        leans: Leans::Two(Lean::Eighths(3)),
+        costs: &[Cost::Eighths(10), Cost::Eighths(7)],
+        leans: &[Lean::Eighths(3)],
     };
     assert_eq!(rt;
         read.to_string(rt.alloc())?.as_str(),
@@ -54,8 +54,8 @@ fn bursts_and_places_are_printed(rt: HostRuntime) -> Result<(), Fail> {
 #[test]
 fn a_line_is_written_if_there_is_room(rt: HostRuntime) {
     let mut list = [b'.'; 11];
-    assert!(rt; write_depth(2, &mut list[0..9]) == Err(TooShort));
+    assert!(rt; write_line(&DepthLine(2), &mut list[0..9]) == Err(TooShort));
     assert!(rt; list[0] == b'.');
-    assert!(rt; write_depth(2, &mut list) == Ok(10));
+    assert!(rt; write_line(&DepthLine(2), &mut list) == Ok(10));
     assert!(rt; &list == b"(depth 2)\n.");
 }

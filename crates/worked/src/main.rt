@@ -5,15 +5,12 @@ use anyhow::anyhow;
 use burst::{Place, Priors, Refusal};
 use channel::{Channel, Sample};
 use receiver::Receiver;
-use report::{Best, Burst, Costs, Leans, Read};
+use report::{Burst, Read};
 use taps::Taps;
 
 // What a call answers; a refusal ends the program.
 fn answered<T>(answer: Result<T, Refusal>) -> anyhow::Result<T> {
-    match answer {
-        Ok(value) => Ok(value),
-        Err(_) => Err(anyhow!("a call was refused")),
-    }
+    answer.map_err(|_| anyhow!("a call was refused"))
 }
 
 // A place that heard 0, with the priors of the values 0 and 1.
@@ -27,42 +24,44 @@ fn place(zero: u16, one: u16) -> Place {
     }
 }
 
-// What is printed of a place.
-fn read(receiver: &Receiver<Taps>, at: usize) -> anyhow::Result<Read> {
-    let zero = answered(receiver.cost(at, 0))?;
-    let one = answered(receiver.cost(at, 1))?;
-    Ok(Read {
+// Prints what is read of a place.
+fn tell_place(rt: &HostRuntime, receiver: &Receiver<Taps>, at: usize) -> anyhow::Result<()> {
+    let costs = [
+        answered(receiver.cost(at, 0))?,
+        answered(receiver.cost(at, 1))?,
+    ];
+    let leans = [answered(receiver.lean(at, 1))?];
+    let read = Read {
         at,
         shown: answered(receiver.symbol(at))?,
-        costs: Costs::Two(zero, one),
-        leans: Leans::Two(answered(receiver.lean(at, 1))?),
-    })
+        costs: &costs,
+        leans: &leans,
+    };
+    println!(rt; "{read}")?;
+    Ok(())
 }
 
 // Settles the burst and prints it.
 fn tell(rt: &HostRuntime, receiver: &mut Receiver<Taps>) -> anyhow::Result<()> {
     let settled = receiver.settle();
+    let places = receiver.places().len();
     let burst = Burst {
-        places: receiver.places().len(),
-        best: match settled.best {
-            Some(best) => Best::Eighths(best),
-            None => Best::Dead,
-        },
+        places,
+        best: settled.best,
         columns: settled.columns,
     };
     println!(rt; "{burst}")?;
-    for at in 0..receiver.places().len() {
-        let line = read(receiver, at)?;
-        println!(rt; "{line}")?;
+    for at in 0..places {
+        tell_place(rt, receiver, at)?;
     }
     Ok(())
 }
 
 fn run(rt: &HostRuntime) -> anyhow::Result<()> {
     let mut channel = Taps::blank();
-    let Ok(()) = channel.load(&[2, 1], 8) else {
-        return Err(anyhow!("the taps were refused"));
-    };
+    channel
+        .load(&[2, 1], 8)
+        .map_err(|_| anyhow!("the taps were refused"))?;
     let mut receiver = Receiver::new(channel);
     answered(receiver.add(place(0, 0)))?;
     answered(receiver.add(place(5, 0)))?;

@@ -1,57 +1,67 @@
-//! Putting channel lines into a draft.
-ghost use Rattle.std.specs.Prelude.{◌+◌, ◌≤◌};
-ghost use Rattle.forms.specs.Forms.{text_of};
+//! The lines of channels.
 ghost use Rattle.kinds.specs.Code.{of_code};
 ghost use Rattle.kinds.specs.Table.{of_table};
 ghost use Rattle.kinds.specs.Taps.{of_taps};
-ghost use Rattle.writing.specs.Drafts.{Room, Adds};
+ghost use Rattle.std.proofs.Common.{rules};
 
 use crate::draft::Draft;
-use crate::list::put_list;
-use crate::numbers::put_count;
-use crate::put::put;
+use crate::line::Line;
+use crate::put::{Put, put_after, put_list};
 use channel::Channel;
 use code::Code;
 use table::Table;
 use taps::Taps;
 
-// The line of taps, of at most 300 bytes.
-pub(crate) fn put_taps(draft: &mut Draft, channel: &Taps)
-    requires { Room 300 draft.old }
-    ensures text { Adds draft.old (text_of (of_taps channel.now)) draft.new }
-    ensures short { draft.new.len ≤ draft.old.len + 300 }
-{
-    put(draft, b"(channel (kind taps) (noise ");
-    put_count(draft, channel.noise() as usize);
-    put(draft, b") (taps");
-    put_list(draft, channel.taps());
+impl Line for Taps {
+    ghost form = { of_taps };
+
+    ghost most = { 100 };
+
+    ghost short = { Prim.search rules };
+
+    fn opening(&self) -> &[u8] {
+        b"(channel (kind taps) (noise "
+    }
+
+    fn put_body(&self, draft: &mut Draft) {
+        self.noise().put(draft);
+        put_list(draft, b") (taps", self.taps());
+    }
 }
 
-// The line of a table, of at most 6,800 bytes.
-pub(crate) fn put_table(draft: &mut Draft, channel: &Table)
-    requires { Room 6800 draft.old }
-    ensures text { Adds draft.old (text_of (of_table channel.now)) draft.new }
-    ensures short { draft.new.len ≤ draft.old.len + 6800 }
-{
-    put(draft, b"(channel (kind table) (noise ");
-    put_count(draft, channel.noise() as usize);
-    put(draft, b") (memory ");
-    put_count(draft, channel.memory());
-    put(draft, b") (entries");
-    put_list(draft, channel.entries());
+impl Line for Table {
+    ghost form = { of_table };
+
+    ghost most = { 6740 };
+
+    ghost short = { Prim.search rules };
+
+    fn opening(&self) -> &[u8] {
+        b"(channel (kind table) (noise "
+    }
+
+    fn put_body(&self, draft: &mut Draft) {
+        self.noise().put(draft);
+        put_after(draft, b") (memory ", &self.memory());
+        put_list(draft, b") (entries", self.entries());
+    }
 }
 
-// The line of a code, of at most 120 bytes.
-pub(crate) fn put_code(draft: &mut Draft, channel: &Code)
-    requires { Room 120 draft.old }
-    ensures text { Adds draft.old (text_of (of_code channel.now)) draft.new }
-    ensures short { draft.new.len ≤ draft.old.len + 120 }
-{
-    put(draft, b"(channel (kind code) (memory ");
-    put_count(draft, channel.memory());
-    put(draft, b") (masks ");
-    put_count(draft, channel.first_mask());
-    put(draft, b" ");
-    put_count(draft, channel.second_mask());
-    put(draft, b"))\n");
+impl Line for Code {
+    ghost form = { of_code };
+
+    ghost most = { 80 };
+
+    ghost short = { Prim.search rules };
+
+    fn opening(&self) -> &[u8] {
+        b"(channel (kind code) (memory "
+    }
+
+    fn put_body(&self, draft: &mut Draft) {
+        self.memory().put(draft);
+        put_after(draft, b") (masks ", &self.first_mask());
+        put_after(draft, b" ", &self.second_mask());
+        draft.put(b"))\n");
+    }
 }

@@ -3,18 +3,14 @@
 
 mod channels;
 mod draft;
-mod inscribed;
-mod lines;
-mod list;
-mod numbers;
-mod piece;
+mod line;
 mod pieces;
 mod places;
 mod put;
 mod short;
 mod whole;
 
-pub use inscribed::Inscribed;
-pub use lines::{write_code, write_depth, write_place, write_table, write_taps};
+pub use line::{Inscribed, write_line};
+pub use places::{DepthLine, PlaceLine};
 pub use short::TooShort;
 pub use whole::write_text;

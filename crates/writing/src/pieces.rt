@@ -1,45 +1,79 @@
-//! Taps, entries and priors as pieces of a line.
+//! Numbers, entries and priors as they are written.
+ghost use Rattle.std.specs.Prelude.{decimal};
 ghost use Rattle.std.specs.Fmt.{signed_decimal};
 ghost use Rattle.forms.specs.Forms.{entry_text, prior_text};
 
 use crate::draft::Draft;
-use crate::numbers::put_number;
-use crate::piece::Piece;
-use crate::put::put;
+use crate::put::{Put, put_after, put_number};
 use forms::Prior;
 use table::Entry;
 
-impl Piece for i16 {
-    ghost written = { signed_decimal };
+// One impl for each type of number: one for every `Integer` would leave no room for priors and entries.
+impl Put for usize {
+    ghost text = { decimal };
 
-    fn put(self, draft: &mut Draft) {
-        put_number(draft, self as i32);
+    ghost most = { 20 };
+
+    fn put(&self, draft: &mut Draft) {
+        put_number(draft, *self);
     }
 }
 
-impl Piece for Prior {
-    ghost written = { prior_text };
+impl Put for u32 {
+    ghost text = { decimal };
 
-    fn put(self, draft: &mut Draft) {
+    ghost most = { 10 };
+
+    fn put(&self, draft: &mut Draft) {
+        put_number(draft, *self);
+    }
+}
+
+impl Put for i32 {
+    ghost text = { signed_decimal };
+
+    ghost most = { 11 };
+
+    fn put(&self, draft: &mut Draft) {
+        put_number(draft, *self);
+    }
+}
+
+impl Put for i16 {
+    ghost text = { signed_decimal };
+
+    ghost most = { 6 };
+
+    fn put(&self, draft: &mut Draft) {
+        put_number(draft, *self);
+    }
+}
+
+impl Put for Prior {
+    ghost text = { prior_text };
+
+    ghost most = { 11 };
+
+    fn put(&self, draft: &mut Draft) {
         match self {
-            Prior::Number(number) => put_number(draft, number),
-            Prior::Barred => put(draft, b"barred"),
+            Prior::Number(number) => number.put(draft),
+            Prior::Barred => draft.put(b"barred"),
         }
     }
 }
 
-impl Piece for Entry {
-    ghost written = { entry_text };
+impl Put for Entry {
+    ghost text = { entry_text };
 
-    fn put(self, draft: &mut Draft) {
+    ghost most = { 25 };
+
+    fn put(&self, draft: &mut Draft) {
         match self {
-            Entry::Barred => put(draft, b"barred"),
+            Entry::Barred => draft.put(b"barred"),
             Entry::Expected { first, second } => {
-                put(draft, b"(");
-                put_number(draft, first);
-                put(draft, b" ");
-                put_number(draft, second);
-                put(draft, b")");
+                put_after(draft, b"(", first);
+                put_after(draft, b" ", second);
+                draft.put(b")");
             }
         }
     }

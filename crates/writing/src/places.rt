@@ -1,25 +1,42 @@
-//! Putting depth lines and place lines into a draft.
-ghost use Rattle.std.specs.Prelude.{◌≡◌, ◌+◌, ◌≤◌, map};
-ghost use Rattle.forms.specs.Forms.{text_of};
-ghost use Rattle.writing.specs.Drafts.{Room, Adds};
+//! The lines of depths and places.
+ghost use Rattle.std.specs.Prelude.{◌≡◌, ◌++◌, ◌≤◌, length, map, take, codes};
+ghost use Rattle.forms.specs.Forms.{listed, prior_text};
+ghost use Rattle.writing.specs.Drafts.{Room};
 ghost use Rattle.writing.specs.Written.{of_depth, of_prior, of_place};
+ghost use Rattle.std.proofs.Common.{rules};
 
 use crate::draft::Draft;
-use crate::list::put_list;
-use crate::numbers::{put_count, put_number};
-use crate::put::put;
+use crate::line::Line;
+use crate::put::{Put, put_after, put_list};
 use burst::{Place, Priors};
 use forms::Prior;
 
-// The line of a depth, of at most 40 bytes.
-pub(crate) fn put_depth(draft: &mut Draft, depth: usize)
-    requires { Room 40 draft.old }
-    ensures text { Adds draft.old (text_of (of_depth depth)) draft.new }
-    ensures short { draft.new.len ≤ draft.old.len + 40 }
-{
-    put(draft, b"(depth ");
-    put_count(draft, depth);
-    put(draft, b")\n");
+/// A depth, as a line.
+#[derive(Clone, Copy)]
+pub struct DepthLine(pub usize);
+
+/// A place with the priors of the first so many values, as a line.
+#[derive(Clone, Copy)]
+pub struct PlaceLine<'a> {
+    pub place: &'a Place,
+    pub values: usize,
+}
+
+impl Line for DepthLine {
+    ghost form = { λ l. of_depth l.0 };
+
+    ghost most = { 22 };
+
+    ghost short = { Prim.search rules };
+
+    fn opening(&self) -> &[u8] {
+        b"(depth "
+    }
+
+    fn put_body(&self, draft: &mut Draft) {
+        self.0.put(draft);
+        draft.put(b")\n");
+    }
 }
 
 // A prior as it is written.
@@ -37,21 +54,34 @@ fn written(number: u16) -> Prior
 fn all_written(priors: Priors) -> [Prior; 4]
     ensures { result ≡ map of_prior priors.numbers }
 {
-    let [a, b, c, d] = priors.numbers();
-    [written(a), written(b), written(c), written(d)]
+    priors.numbers().map(written)
 }
 
-// The line of a place with the priors of the first so many values, of at most 160 bytes.
-pub(crate) fn put_place(draft: &mut Draft, place: &Place, values: usize)
-    requires { Room 160 draft.old }
-    ensures text { Adds draft.old (text_of (of_place values place.now)) draft.new }
-    ensures short { draft.new.len ≤ draft.old.len + 160 }
+// The priors of the first so many values, to the end of a line.
+fn put_priors(draft: &mut Draft, priors: Priors, values: usize)
+    requires { Room 60 draft.old }
+    ensures text { draft.new ≡ draft.old ++ (codes ") (prior" ++ listed prior_text (map of_prior (take values priors.numbers))) }
+    ensures short { length (listed prior_text (map of_prior (take values priors.numbers))) ≤ 51 }
 {
-    put(draft, b"(place (sample ");
-    put_number(draft, place.sample.first);
-    put(draft, b" ");
-    put_number(draft, place.sample.second);
-    put(draft, b") (prior");
-    let priors = all_written(place.priors);
-    put_list(draft, &priors[0..values.min(4)]);
+    let written = all_written(priors);
+    put_list(draft, b") (prior", &written[0..values.min(4)]);
+}
+
+impl Line for PlaceLine<'_> {
+    ghost form = { λ l. of_place l.values l.place.now };
+
+    ghost most = { 100 };
+
+    ghost short = { Prim.search rules };
+
+    fn opening(&self) -> &[u8] {
+        b"(place (sample "
+    }
+
+    fn put_body(&self, draft: &mut Draft) {
+        let sample = self.place.sample;
+        sample.first.put(draft);
+        put_after(draft, b" ", &sample.second);
+        put_priors(draft, self.place.priors, self.values);
+    }
 }

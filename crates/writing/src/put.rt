@@ -1,38 +1,64 @@
-//! Putting bytes into a draft, and handing it over.
-ghost use Rattle.std.specs.Prelude.{◌≡◌, [], length};
-ghost use Rattle.writing.specs.Drafts.{drafted, Room, Adds, Stands};
+//! Putting what is written into a draft.
+ghost use Rattle.std.specs.Prelude.{◌≡◌, ℕ, ◌+◌, ◌*◌, ◌≤◌, List, ◌∷◌, ◌++◌, length};
+ghost use Rattle.std.specs.List.{flat_map};
+ghost use Rattle.forms.specs.Forms.{listed};
+ghost use Rattle.writing.specs.Drafts.{Room};
 
 use crate::draft::Draft;
-use crate::short::TooShort;
+use itoa::{Buffer, Integer};
 
-// An empty draft.
-pub(crate) fn blank() -> Draft
-    ensures nothing { drafted result ≡ [] }
-    ensures len { result.len ≡ 0 }
+/// What can be put into a draft.
+pub(crate) trait Put {
+    ghost text: { Self → List ℕ };
+
+    ghost most: { ℕ };
+
+    /// Puts its text after what a draft holds. The text has at most so many bytes.
+    fn put(&self, draft: &mut Draft)
+        requires { Room most draft.old }
+        ensures text { draft.new ≡ draft.old ++ text self.now }
+        ensures short { length (text self.now) ≤ most };
+}
+
+// A number in decimal.
+pub(crate) fn put_number<I: Integer>(draft: &mut Draft, number: I)
+    requires { Room I.MAX_STR_LEN draft.old }
+    ensures text { draft.new ≡ draft.old ++ I.text number }
+    ensures short { length (I.text number) ≤ I.MAX_STR_LEN }
 {
-    Draft {
-        bytes: [0; 28_672],
-        len: 0,
+    let mut buffer = Buffer::new();
+    let text = buffer.format(number).as_bytes();
+    draft.put(text);
+}
+
+// Words, and what is written after them.
+pub(crate) fn put_after<P: Put>(draft: &mut Draft, words: &[u8], piece: &P)
+    requires { Room (length words.now + P.most) draft.old }
+    ensures text { draft.new ≡ draft.old ++ (words.now ++ P.text piece.now) }
+    ensures short { length (P.text piece.now) ≤ P.most }
+{
+    draft.put(words);
+    piece.put(draft);
+}
+
+// Pieces, each after a space.
+fn put_pieces<P: Put>(draft: &mut Draft, pieces: &[P])
+    requires { Room ((P.most + 1) * length pieces.now) draft.old }
+    ensures text { draft.new ≡ draft.old ++ flat_map (λ x. 32 ∷ P.text x) pieces.now }
+    ensures short { length (flat_map (λ x. 32 ∷ P.text x) pieces.now) ≤ (P.most + 1) * length pieces.now }
+{
+    for piece in pieces {
+        put_after(draft, b" ", piece);
     }
 }
 
-// The bytes after what the draft holds.
-pub(crate) fn put(draft: &mut Draft, bytes: &[u8])
-    requires { Room (length bytes.now) draft.old }
-    ensures { Adds draft.old bytes.now draft.new }
+// Words, and pieces to the end of a line, each after a space.
+pub(crate) fn put_list<P: Put>(draft: &mut Draft, words: &[u8], pieces: &[P])
+    requires { Room (length words.now + ((P.most + 1) * length pieces.now + 3)) draft.old }
+    ensures text { draft.new ≡ draft.old ++ (words.now ++ listed P.text pieces.now) }
+    ensures short { length (listed P.text pieces.now) ≤ (P.most + 1) * length pieces.now + 3 }
 {
-    let end = draft.len + bytes.len();
-    draft.bytes[draft.len..end].copy_from_slice(bytes);
-    draft.len = end;
-}
-
-// What the draft holds at the front of a list, if there is room for it, and its length.
-pub(crate) fn hand_over(draft: &Draft, out: &mut [u8]) -> Result<usize, TooShort>
-    ensures { Stands (drafted draft.now) out.old out.new result }
-{
-    if out.len() < draft.len {
-        return Err(TooShort);
-    }
-    out[0..draft.len].copy_from_slice(&draft.bytes[0..draft.len]);
-    Ok(draft.len)
+    draft.put(words);
+    put_pieces(draft, pieces);
+    draft.put(b"))\n");
 }

@@ -8,7 +8,7 @@ use channel::Channel;
 
 impl<'a, C: Channel> FullTrellis<'a, C> {
     /// The trellis of a channel and few places.
-    #[tactic(auto, using(burst::proofs::Sizes::two_symbols, burst::proofs::Sizes::four_symbols, burst::proofs::Sizes::some_histories))]
+    #[tactic(auto, using(channel::proofs::Sizes::two_symbols, channel::proofs::Sizes::four_symbols, burst::proofs::Sizes::some_histories))]
     pub(crate) fn new(channel: &'a C, places: &'a [Place]) -> Self
         requires { length places.now ≤ 128 }
         ensures { result ≡ burst_of channel.now places.now }

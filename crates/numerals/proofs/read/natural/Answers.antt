@@ -1,7 +1,7 @@
-use Rattle.std.proofs.Common.{◌≡◌, length, get_or, take, refl, arith, rules}
+use Rattle.std.proofs.Common.{◌≡◌, ◌+◌, ◌*◌, length, get_or, take, refl, sym, subst, arith, rules}
 use Rattle.std.specs.Str.Parse.{AllDigits, digits_value}
 use Rattle.std.proofs.lemmas.List.{take_all}
-use Rattle.numerals.proofs.Reading.{not_empty, not_long, no_zero_first, only_digits, one_more_digit, six_digits, all_digits}
+use Rattle.numerals.proofs.Reading.{ReadTo, not_empty, not_long, no_zero_first, only_digits, one_more_digit, six_digits, all_digits}
 use Rattle.numerals.proofs.read.natural.Goals as goal
 use Rattle.numerals.proofs.read.natural.Goals.{then-text-lt2, else-text-lt2+in_default-1}
 
@@ -27,7 +27,9 @@ pub returns-in_default-b-2 : goal.returns-in_default-b-2
 returns-in_default-b-2 c = only_digits _ c.loop-b.b-index (search rules) (search rules)
 
 pub loop-b-preserved : goal.loop-b-preserved
-loop-b-preserved c = one_more_digit _ _ _ _ c.loop-b.invariant c.loop-b-test.true refl (search rules)
+loop-b-preserved c =
+    subst (λ d. ReadTo c.args.text.now (c.loop-b.b-index + 1) (c.loop-b.n * 10 + d)) (sym c.from.ensures)
+    (one_more_digit _ _ _ _ c.loop-b.invariant c.loop-b-test.true refl (search rules))
 
 pub returns : goal.returns
 returns c =

@@ -1,49 +1,39 @@
-use Rattle.std.proofs.Common.{◌≡◌, ◌<◌, length, ap, arith, rules}
+use Rattle.std.proofs.Common.{◌≡◌, ◌+◌, length, Ok, Err, ap, subst, arith}
+use Rattle.std.proofs.lemmas.Result.{err_from_is_err_and}
+use Rattle.std.specs.Iterator.Adapters.{enumerate_source, enumerate_count}
+use Rattle.text.specs.Lines.{left_of}
+use Rattle.reading.specs.Lines.{Does, Outcome, blame_of}
 use Rattle.reading.specs.Received.{state_of}
-use Rattle.reading.proofs.Running.{so_none, so_more, some_line, shorter, blame_is, so_blamed, so_all}
+use Rattle.reading.proofs.Running.{SoFar, so_more, blame_is, so_blamed}
 use Rattle.reading.proofs.places.read_places.Goals as goal
 
-pub loop-rest-init : goal.loop-rest-init
-loop-rest-init g c = (so_none _ 3 _ _, λ b. b)
-
-pub add_line-requires : goal.add_line-requires
-add_line-requires g c =
-    let some : 0 < length c.loop-rest.rest.now = search rules in
-    some_line _ _ _ c.cut_line.ensures some
-
-pub returns-in-Err : goal.returns-in-Err
-returns-in-Err g c =
+pub loop-i-preserved : goal.loop-i-preserved
+loop-i-preserved g c =
     let k = g.C.Spelled.rule in
-    let rest = c.loop-rest.rest.now in
-    let some : 0 < length rest = search rules in
+    let form = g.C.Spelled.form in
+    let before = state_of form c.loop-i.receiver in
+    let after = state_of form c.add_line.new.receiver in
+    let left = left_of (enumerate_source c.next.new.self) in
+    let steps = c.in-Some.ensures.steps in
+    let next : enumerate_count c.loop-i.i-iterator + 3 + 1 ≡ enumerate_count c.next.new.self + 3 = omega (arith, steps.2) in
+    let does = subst (λ n. Does k n before c.in-Some.line.now (Ok after)) (ap (λ n. n + 3) steps.1) c.in_ok-add_line.ensures.does in
     record {
-      does =
-          so_blamed k 3 _ _ c.loop-rest.number (state_of g.C.Spelled.form c.loop-rest.receiver) rest _ c.loop-rest.invariant.0
-          (blame_is k c.loop-rest.number (state_of g.C.Spelled.form c.loop-rest.receiver) rest _ _ _ c.cut_line.ensures (λ e _. omega (arith, ap length e)) (c.in-Err.ensures.does c.loop-rest.number));
-      begun = tt;
+      read =
+          subst (λ n. SoFar k 3 (state_of form c.args.receiver.now) c.args.text.now n after left) next
+          (so_more k 3 _ _ (enumerate_count c.loop-i.i-iterator + 3) _ _ _ _ _ c.loop-i.invariant.read steps.0.1 steps.0.0 does);
+      begun = λ b. c.in_ok-add_line.ensures.begun (c.loop-i.invariant.begun b);
     }
 
-pub overflow_add-number : goal.overflow_add-number
-overflow_add-number g c =
-    let some : 0 < length c.loop-rest.rest.now = search rules in
-    omega (arith, c.loop-rest.invariant.0.short)
-
-pub loop-rest-smaller : goal.loop-rest-smaller
-loop-rest-smaller g c =
-    let some : 0 < length c.loop-rest.rest.now = search rules in
-    shorter _ _ _ c.cut_line.ensures some
-
-pub loop-rest-preserved : goal.loop-rest-preserved
-loop-rest-preserved g c =
-    let some : 0 < length c.loop-rest.rest.now = search rules in (
-      so_more g.C.Spelled.rule 3 _ _ c.loop-rest.number _ _ _ _ _ c.loop-rest.invariant.0 c.cut_line.ensures some (c.in-Ok.ensures.does c.loop-rest.number),
-      λ b. c.in-Ok.ensures.begun (c.loop-rest.invariant.1 b),
-    )
-
-pub returns : goal.returns
-returns g c =
-    let none : length c.loop-rest.rest.now ≡ 0 = search rules in
-    record {
-      does = so_all g.C.Spelled.rule 3 _ _ c.loop-rest.number (state_of g.C.Spelled.form c.loop-rest.receiver) c.loop-rest.rest.now c.loop-rest.invariant.0 none tt;
-      begun = c.loop-rest.invariant.1;
-    }
+pub returns-in_err-add_line-clause-does : goal.returns-in_err-add_line-clause-does
+returns-in_err-add_line-clause-does g c =
+    let p = err_from_is_err_and c.from_residual.result c.from_residual.ensures.1 in
+    let k = g.C.Spelled.rule in
+    let before = state_of g.C.Spelled.form c.loop-i.receiver in
+    let left = left_of (enumerate_source c.loop-i.i-iterator) in
+    let fault = c.in_err-add_line.field-0.0 in
+    let steps = c.in-Some.ensures.steps in
+    let number = enumerate_count c.loop-i.i-iterator + 3 in
+    let wrong = subst (λ n. Outcome k n before c.in-Some.line.now (Err (blame_of fault))) (ap (λ n. n + 3) steps.1) c.in_err-add_line.ensures.does in
+    rw (p.1, p.2)
+    (so_blamed k 3 _ _ number before left (blame_of fault) c.loop-i.invariant.read
+    (blame_is k number before left _ _ (blame_of fault) steps.0.1 (λ e _. omega (arith, steps.0.0, ap length e)) wrong))

@@ -1,11 +1,12 @@
-use Rattle.std.proofs.Common.{refl, arith}
+use Rattle.std.proofs.Common.{Err, ap, arith}
 use Rattle.std.proofs.lemmas.Result.{err_from_is_err_and}
+use Rattle.reading.specs.Lines.{blame_of}
 use Rattle.reading.proofs.Running.{short_text, bad_heads, good_heads}
 use Rattle.reading.proofs.Single.{one_answer}
 use Rattle.reading.proofs.whole.read_new.Goals as goal
 
 pub returns-then-text-gt-MOST_BYTES : goal.returns-then-text-gt-MOST_BYTES
-returns-then-text-gt-MOST_BYTES g c = record { reads = record { long = λ _. refl; short = λ h. absurd (omega arith) }; begun = tt; one = one_answer }
+returns-then-text-gt-MOST_BYTES g c = record { reads = record { long = λ _. ap (λ e. Err (blame_of e)) c.at.ensures; short = λ h. absurd (omega arith) }; begun = tt; one = one_answer }
 
 pub returns-in_err-receiver : goal.returns-in_err-receiver
 returns-in_err-receiver g c =

@@ -1,6 +1,6 @@
-use Rattle.std.proofs.Common.{[], ◌∷◌, Ok, subst}
+use Rattle.std.proofs.Common.{[], ◌∷◌, Ok, Err, sym, subst}
 use Rattle.std.proofs.lemmas.Result.{err_from_is_err_and}
-use Rattle.text.specs.Kinds.{ReadsHead}
+use Rattle.text.specs.Kinds.{Found, ReadsHead}
 use Rattle.text.proofs.Finding.{none_before, after_depth_lem, found_kind, found_depth, found_fault}
 use Rattle.text.proofs.find.find.Goals as goal
 
@@ -23,4 +23,4 @@ returns-in-Some-2 c =
 pub returns-in-None : goal.returns-in-None
 returns-in-None c =
     let d = after_depth_lem _ _ _ _ c.in_default.is c.cut_line.ensures c.in_ok-kind.ensures in
-    found_depth _ _ _ _ d.0 d.1 c.cut_line-2.ensures (subst (λ o. ReadsHead c.cut_line-2.result.0.now (Ok o)) c.in-None.is c.in_ok-kind-2.ensures)
+    subst (λ e. Found c.args.text.now (Err e)) (sym c.at.ensures) (found_depth _ _ _ _ d.0 d.1 c.cut_line-2.ensures (subst (λ o. ReadsHead c.cut_line-2.result.0.now (Ok o)) c.in-None.is c.in_ok-kind-2.ensures))
