@@ -1,23 +1,21 @@
 //! A text in the making.
-ghost use Rattle.std.specs.Prelude.{◌≡◌, ◌≤◌, List, ℕ, [], ◌++◌, length, take};
+ghost use Rattle.std.specs.Prelude.{◌≡◌, List, ℕ, [], ◌++◌, length};
 ghost use Rattle.writing.specs.Drafts.{Room, Stands};
 
 use crate::short::TooShort;
+use prefix::Prefix;
 use std::marker::Model;
 
 /// A text of at most 28,672 bytes.
 #[derive(Drop)]
 pub struct Draft {
-    bytes: [u8; 28_672],
-    len: usize,
+    text: Prefix<u8, 28_672>,
 }
 
 impl Model for Draft {
     ghost Value = { List ℕ };
 
-    ghost view = { λ d. take d.len d.bytes };
-
-    ghost invariant = { λ d. (length d.bytes ≡ 28672) × (d.len ≤ 28672) };
+    ghost view = { λ d. d.text.items };
 }
 
 impl Draft {
@@ -26,8 +24,7 @@ impl Draft {
         ensures { result ≡ [] }
     {
         Draft {
-            bytes: [0; 28_672],
-            len: 0,
+            text: Prefix::repeat(0, 0),
         }
     }
 
@@ -36,16 +33,14 @@ impl Draft {
         requires { Room (length bytes.now) self.old }
         ensures { self.new ≡ self.old ++ bytes.now }
     {
-        let end = self.len + bytes.len();
-        self.bytes[self.len..end].copy_from_slice(bytes);
-        self.len = end;
+        self.text.extend_from_slice(bytes);
     }
 
     /// What it holds.
     fn text(&self) -> &[u8]
         ensures { result.now ≡ self.now }
     {
-        &self.bytes[0..self.len]
+        self.text.as_slice()
     }
 
     /// What it holds at the front of a list, if there is room for it, and its length.
