@@ -1,7 +1,7 @@
 //! The place that a line says.
 ghost use Rattle.std.specs.Prelude.{◌≡◌, ◌≤◌, true, false, [], ◌∷◌, length, MatchOption};
 ghost use Rattle.forms.specs.Lines.{priors_in};
-ghost use Rattle.reading.specs.Places.{prior_fits, number_of_prior, all_fit, priors_of, Hands};
+ghost use Rattle.reading.specs.Places.{prior_fits, number_of_prior, written, all_fit, priors_of, Hands};
 
 use burst::{Place, Priors};
 use forms::{PlaceLine, Prior};
@@ -17,17 +17,27 @@ fn prior_number(prior: Prior) -> Option<u16>
     }
 }
 
+// The number of the prior of a value, 0 if none is written for it, if it fits.
+fn number_at(priors: &[Prior], value: usize) -> Option<u16>
+    ensures { MatchOption result (prior_fits (written priors.now value) ≡ false) (λ n. (prior_fits (written priors.now value) ≡ true) × (n ≡ number_of_prior (written priors.now value))) }
+{
+    match priors.get(value) {
+        Some(prior) => prior_number(*prior),
+        None => Some(0),
+    }
+}
+
 // The priors of four values, those past the written ones 0, if all fit.
 fn written_priors(priors: &[Prior]) -> Option<Priors>
     requires { length priors.now ≤ 4 }
     ensures { MatchOption result (all_fit priors.now ≡ false) (λ p. (all_fit priors.now ≡ true) × (p ≡ priors_of priors.now)) }
 {
-    let mut numbers = [0; 4];
-    // By index: no invariant was found for `iter_mut` beside the priors, which says what the numbers are at a refusal.
-    for (i, prior) in priors.iter().enumerate() {
-        numbers[i] = prior_number(*prior)?;
-    }
-    Some(Priors::new(numbers))
+    Some(Priors::new([
+        number_at(priors, 0)?,
+        number_at(priors, 1)?,
+        number_at(priors, 2)?,
+        number_at(priors, 3)?,
+    ]))
 }
 
 // Priors that break the rule of priors for any number of symbol values: all four are barred.
