@@ -45,6 +45,7 @@ pub trait Channel {
         ensures { result ≡ taken (meaning self.now) sample };
 
     /// The cost of a sample under a window. Barred for a sample that is not taken, and past the last window.
+    // No default, though two kinds have the same body: the price of a taken sample would become a method that anyone may ask of any sample.
     fn cost(&self, sample: Sample, window: usize) -> Cost
         ensures { result ≡ cost_of (meaning self.now) sample window };
 

@@ -7,6 +7,7 @@ mod load;
 mod price;
 
 /// A memory of one to eight symbols, and two masks. Bit i of a mask stands for the symbol i places back.
+// Two masks by name, as a sample has two numbers: an index of a pair would be one number more to check.
 #[derive(Clone, Copy)]
 pub struct Code {
     memory: usize,

@@ -6,6 +6,7 @@ use crate::line::{PlaceLine, TableLine, TapsLine};
 use crate::prior::Prior;
 use table::Entry;
 
+// A getter for each line: a field of its own name tells more than one of a common type would.
 impl TapsLine {
     /// The taps.
     pub fn taps(&self) -> &[i16]

@@ -133,7 +133,7 @@ fn read_place(text: &[u8]) -> Result<Line, NotAForm>
     }))
 }
 
-// What follows the first words of a form.
+// What follows the first words of a form. A `match` over an enum: contracts and definitions name the form that a line begins as.
 fn read_body(head: Head, text: &[u8]) -> Result<Line, NotAForm>
     ensures { ReadsBody head text.now result }
 {

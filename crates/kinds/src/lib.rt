@@ -24,6 +24,7 @@ pub trait Spelled: Channel {
         ensures { result ≡ rule.kind };
 
     /// The channel that a line loads, or why it loads none of this kind.
+    // A method, and no `TryFrom<&Line>`: as a bound that would be over each lifetime of the line.
     fn from_line(line: &Line) -> Result<Self, Cause>
         ensures { Spells rule form line.now result };
 

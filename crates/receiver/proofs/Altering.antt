@@ -4,12 +4,9 @@ use native.Mathlib.Nat.{min-le_left, min-le_right, le-max_left, le-max_right, ma
 use lib.Seq.{take-set-lt}
 use Rattle.std.proofs.lemmas.List.{get_or-take}
 use Rattle.std.proofs.lemmas.Bool.{cases_eq, eqb-true}
-use Rattle.channel.specs.Meaning.{Meaning, taken}
-use Rattle.channel.specs.declared.sample.Sample.{Sample}
-use Rattle.burst.specs.Places.{priors_allowed}
+use Rattle.channel.specs.Meaning.{Meaning}
 use Rattle.burst.specs.Sequences.{place_at}
 use Rattle.burst.specs.declared.place.Place.{Place}
-use Rattle.burst.specs.declared.priors.Priors.{Priors}
 use Rattle.recursions.specs.Backward.{backward, backward_of}
 use Rattle.recursions.specs.Depths.{states}
 use Rattle.recursions.proofs.Depths.{allowed_keeps}
@@ -150,14 +147,6 @@ module _ (b : Burst) (full : Bool) (k : ℕ) (p : Place) (kept : Kept b) (held :
 
     pub alter_sound : (m : Meaning) → TellsFull m b full → Fits m p → Sound m b → Sound m (with_other b marks k p)
     alter_sound m tells fits sound = subst (λ (x : Marks). Sound m (with_other b x k p)) (sym are) (stays_sound m tells fits sound)
-
--- place k with another sample, or with other priors, fits
-module _ (m : Meaning) (b : Burst) (sound : Sound m b) (k : ℕ) (held : k < b.count) where
-  pub sample_fits : (z : Sample) → taken m z ≡ true → Fits m (record { sample = z; priors = (place_at (places_of b) k).priors })
-  sample_fits z taken' = record { sample = taken'; priors = (sound.fits k held).priors }
-
-  pub priors_fit : (priors : Priors) → priors_allowed m.symbols priors ≡ true → Fits m (record { sample = (place_at (places_of b) k).sample; priors = priors })
-  priors_fit priors allowed = record { sample = (sound.fits k held).sample; priors = allowed }
 
 -- the burst with places fewer
 abbrev pub with_fewer : Burst → ℕ → Marks → Burst

@@ -3,12 +3,14 @@ ghost use Rattle.std.specs.Prelude.{◌≡◌, ◌<◌, ◌≤◌, true};
 ghost use Rattle.channel.specs.Meaning.{taken};
 ghost use Rattle.burst.specs.Places.{priors_allowed};
 ghost use Rattle.burst.specs.Refusals.{refused_by};
+ghost use Rattle.burst.specs.Sequences.{place_at};
+ghost use Rattle.receiver.specs.Bursts.{places_of};
 ghost use Rattle.receiver.specs.Changes.{Altered, Shortened, Then, Passed};
-ghost use Rattle.receiver.specs.Sound.{TellsFull};
-ghost use Rattle.receiver.specs.Standing.{standing, full_depth, retake_refusal, retaken, reweigh_refusal, reweighed, cut_refusal};
+ghost use Rattle.receiver.specs.Sound.{Fits, TellsFull};
+ghost use Rattle.receiver.specs.Standing.{standing, full_depth, altered, retake_refusal, retaken, reweigh_refusal, reweighed, cut_refusal};
 
 use crate::receiver::Receiver;
-use burst::{Priors, Refusal};
+use burst::{Place, Priors, Refusal};
 use channel::{Channel, Sample};
 
 impl<C: Channel> Receiver<C> {
@@ -17,6 +19,26 @@ impl<C: Channel> Receiver<C> {
         ensures tells { TellsFull (C.meaning self.now.channel) self.now.burst result }
     {
         self.burst.depth == self.channel.memory()
+    }
+
+    // The record of place k.
+    fn place(&self, k: usize) -> Place
+        requires { k < self.now.burst.count }
+        ensures value { result ≡ place_at (places_of self.now.burst) k }
+        ensures fits { Fits (C.meaning self.now.channel) result }
+    {
+        self.burst.places[k]
+    }
+
+    // Puts another record in the place of place k.
+    fn alter(&mut self, k: usize, place: Place)
+        requires held { k < self.old.burst.count }
+        requires fits { Fits (C.meaning self.old.channel) place }
+        ensures channel { self.new.channel ≡ self.old.channel }
+        ensures altered { Altered self.old.burst self.new.burst (altered (full_depth (C.meaning self.old.channel) self.old.burst.depth) (standing self.old.burst) k place) }
+    {
+        let full = self.at_full_depth();
+        self.burst.alter(full, k, place);
     }
 
     // Whether place k can have another sample.
@@ -63,8 +85,8 @@ impl<C: Channel> Receiver<C> {
         ensures stands { Then result self.old.burst self.new.burst (Altered self.old.burst self.new.burst (retaken (full_depth (C.meaning self.old.channel) self.old.burst.depth) (standing self.old.burst) place sample)) }
     {
         self.check_sample(place, sample)?;
-        let full = self.at_full_depth();
-        self.burst.retake(full, place, sample);
+        let before = self.place(place);
+        self.alter(place, Place { sample, ..before });
         Ok(())
     }
 
@@ -75,8 +97,8 @@ impl<C: Channel> Receiver<C> {
         ensures stands { Then result self.old.burst self.new.burst (Altered self.old.burst self.new.burst (reweighed (full_depth (C.meaning self.old.channel) self.old.burst.depth) (standing self.old.burst) place priors)) }
     {
         self.check_priors(place, priors)?;
-        let full = self.at_full_depth();
-        self.burst.reweigh(full, place, priors);
+        let before = self.place(place);
+        self.alter(place, Place { priors, ..before });
         Ok(())
     }
 
