@@ -13,7 +13,7 @@ use crate::shape::Shape;
 use crate::stored::BARRED;
 use channel::Channel;
 
-// The first pair into a state that has the least sum. A loop: by its clauses, the item of `min_by_key` is least, but need not be the first.
+// The first pair into a state that has the least sum. A loop: `min_by_key` answers an Option that is never none here, and says only turn by turn that it takes the first.
 fn pick(shape: Shape, sums: &[u32; 64], state: usize) -> usize
     requires { state < shape.states }
     ensures { Picked shape.states sums.now state shape.symbols result }
