@@ -1,6 +1,7 @@
 -- What is held of a form, and what the readers of lines answer: a line is a form exactly if it is the text of one.
 use Rattle.std.specs.Prelude.{◌≡◌, ℕ, cond, List, ◌++◌, map, take, ℤ, pos, negsuc, Result, MatchResult, ◌≢◌, int_le}
 use Rattle.std.specs.Borrow.{Bor}
+use Rattle.prefix.specs.Prefix.{items}
 use Rattle.table.specs.declared.entry.Entry.{Entry}
 use Rattle.forms.specs.Forms.{Form, taps_form, table_form, code_form, depth_form, place_form, opening, head_of, body_of, text_of, Lawful}
 use Rattle.forms.specs.declared.fault.NotAForm.{NotAForm}
@@ -27,13 +28,13 @@ held (place_form first second priors) = place_form first second priors
 
 -- the lists of a line
 abbrev pub taps_in : TapsLine → List ℤ
-taps_in l = l.taps.items
+taps_in l = items l.taps
 
 abbrev pub entries_in : TableLine → List Entry
-entries_in l = l.entries.items
+entries_in l = items l.entries
 
 abbrev pub priors_in : PlaceLine → List Prior
-priors_in l = l.priors.items
+priors_in l = items l.priors
 
 -- what a line says
 abbrev pub said : Line → Form

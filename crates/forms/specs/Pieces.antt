@@ -4,7 +4,8 @@ use Rattle.std.specs.Borrow.{Bor}
 use Rattle.std.specs.Fmt.{signed_decimal}
 use Rattle.std.specs.List.{AllByRecursion}
 use Rattle.numerals.specs.Numbers.{SevenDigits}
-use Rattle.prefix.specs.Prefix.{Prefix}
+use Rattle.prefix.specs.Prefix.{items}
+use Rattle.prefix.specs.declared.Prefix.{Prefix}
 use Rattle.table.specs.declared.entry.Entry.{Entry}
 use Rattle.table.specs.declared.entry.Entry.TheVariants.{Expected}
 use Rattle.forms.specs.Forms.{entry_text, EntryLawful, listed}
@@ -60,7 +61,7 @@ pub record Kept {X : Type 0} (write : X → List ℕ) (lawful : X → Type 0) (r
   pub some : 1 ≤ length pieces
   pub front : kept ≡ take room pieces
 
-abbrev pub TakesList : {X : Type 0} → (X → List ℕ) → (X → Type 0) → ℕ → List ℕ → Result (Prefix X) NotAForm → Type 0
+abbrev pub TakesList : {X : Type 0} → (X → List ℕ) → (X → Type 0) → (room : ℕ) → List ℕ → Result (Prefix X room) NotAForm → Type 0
 TakesList {X} write lawful room text r =
-    MatchResult r (λ kept. Kept write lawful room text kept.items)
+    MatchResult r (λ kept. Kept write lawful room text (items kept))
     (λ _. (xs : List X) → AllByRecursion lawful xs → 1 ≤ length xs → text ≢ listed write xs)

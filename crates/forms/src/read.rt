@@ -2,6 +2,7 @@
 ghost use Rattle.std.specs.Prelude.{◌≡◌, ◌++◌, ◌||◌, ◌==◌, map, length, take, MatchResult, ◌≢◌};
 ghost use Rattle.forms.specs.declared.head.Head.TheVariants.{Taps, Table, Code, Depth, Place};
 ghost use Rattle.forms.specs.Forms.{opening, FormsHaveOneText};
+ghost use Rattle.prefix.specs.Prefix.{items};
 ghost use Rattle.forms.specs.Lines.{nearest, Opens, ReadsBody, ReadsLine};
 
 use crate::fault::NotAForm;
@@ -56,7 +57,7 @@ fn nearest(number: i32) -> i16
 
 // The numbers of 16 bits nearest to numbers, the first nine of them.
 fn narrow(numbers: &[i32]) -> Prefix<i16, 9>
-    ensures { result.items ≡ take 9 (map nearest numbers.now) }
+    ensures { items result ≡ take 9 (map nearest numbers.now) }
 {
     let mut taps = Prefix::repeat(0, 0);
     for number in numbers {
@@ -113,7 +114,7 @@ fn read_table(text: &[u8]) -> Result<Line, NotAForm>
 
 // Whether there are two priors or four.
 fn two_or_four(priors: Prefix<Prior, 5>) -> bool
-    ensures { result ≡ (length priors.items == 2 || length priors.items == 4) }
+    ensures { result ≡ (length (items priors) == 2 || length (items priors) == 4) }
 {
     matches!(priors.as_slice().len(), 2 | 4)
 }

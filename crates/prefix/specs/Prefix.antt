@@ -1,7 +1,7 @@
--- What a contract sees of a prefix.
-use Rattle.std.specs.Prelude.{List}
+-- What a prefix holds.
+use Rattle.std.specs.Prelude.{ℕ, List, take}
+use Rattle.prefix.specs.declared.Prefix.{Prefix}
 
--- the elements, in order, and those of the unused room, of which no clause says anything
-pub record Prefix (T : Type 0) : Type 0 where
-  pub items : List T
-  pub spare : List T
+-- its elements, in order
+abbrev pub items : {T : Type 0} {N : ℕ} → Prefix T N → List T
+items p = take p.len p.cells

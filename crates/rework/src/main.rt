@@ -64,7 +64,7 @@ fn say_answer(rt: &HostRuntime, answer: Answer) -> anyhow::Result<()> {
 }
 
 // Compares a receiver that is worked through calls with a new one, and prints what both tell.
-fn show(rt: &HostRuntime, channel: &Taps, calls: &[Call], further: &[Call]) -> anyhow::Result<()> {
+fn show(rt: &HostRuntime, channel: Taps, calls: &[Call], further: &[Call]) -> anyhow::Result<()> {
     let unheard = Heard {
         one: Ok(Answer::Done),
         other: Ok(Answer::Done),
@@ -73,8 +73,8 @@ fn show(rt: &HostRuntime, channel: &Taps, calls: &[Call], further: &[Call]) -> a
     let mut bytes = [9; 4];
     let mut other_bytes = [9; 4];
     let told = compare(
-        *channel,
-        *channel,
+        channel,
+        channel,
         calls,
         further,
         &mut bytes,
@@ -159,20 +159,20 @@ fn run(rt: &HostRuntime) -> anyhow::Result<()> {
     let second = Call::Add(silent([5, 0, 0, 0]));
     println!(rt; "settled, then place 1 retaken as (1, 0)")?;
     let later = [first, second, Call::Settle, Call::Retake(1, sample(1))];
-    show(rt, &channel, &later, &readings())?;
+    show(rt, channel, &later, &readings())?;
     println!(rt; "settled, then place 0 retaken as it is")?;
     let again = Call::Retake(0, sample(0));
     show(
         rt,
-        &channel,
+        channel,
         &[first, second, Call::Settle, again],
         &readings(),
     )?;
     println!(rt; "the same at depth 1")?;
     let shallow = [first, second, Call::Depth(1), Call::Settle, again];
-    show(rt, &channel, &shallow, &readings())?;
+    show(rt, channel, &shallow, &readings())?;
     println!(rt; "many calls, refused ones among them")?;
-    show(rt, &channel, &many(first, second), &after_many())?;
+    show(rt, channel, &many(first, second), &after_many())?;
     Ok(())
 }
 

@@ -2,6 +2,7 @@
 use Rattle.std.specs.Prelude.{◌≡◌, ℕ, List, ℤ, pos, Ok, Err, Result}
 use Rattle.channel.specs.declared.refusal.Refusal.{Refusal}
 use Rattle.channel.specs.Meaning.{Meaning}
+use Rattle.prefix.specs.Prefix.{items}
 use Rattle.table.specs.declared.entry.Entry.{Entry}
 use Rattle.table.specs.declared.Table.{Table}
 use Rattle.table.specs.Rule.{table_meaning}
@@ -10,7 +11,7 @@ abbrev pub memory_of : Table → ℕ
 memory_of c = c.memory
 
 abbrev pub entries_of : Table → List Entry
-entries_of c = c.entries.items
+entries_of c = items c.entries
 
 abbrev pub noise_of : Table → ℕ
 noise_of c = c.noise.number

@@ -2,6 +2,7 @@
 #![tactic(auto)]
 
 ghost use Rattle.std.specs.Prelude.{◌≡◌, ◌^◌, ◌≤◌, true, length};
+ghost use Rattle.prefix.specs.Prefix.{items};
 ghost use Rattle.table.specs.Entries.{each_in_range};
 
 use channel::Noise;
@@ -21,7 +22,7 @@ pub struct Table {
     noise: Noise,
     ghost some: { 1 ≤ memory },
     ghost few: { memory ≤ 4 },
-    ghost whole: { length entries.items ≡ 4 ^ memory },
-    ghost fits: { length entries.items ≤ 256 },
-    ghost ranged: { each_in_range entries.items ≡ true },
+    ghost whole: { length (items entries) ≡ 4 ^ memory },
+    ghost fits: { length (items entries) ≤ 256 },
+    ghost ranged: { each_in_range (items entries) ≡ true },
 }

@@ -1,6 +1,7 @@
 //! Making and loading a table.
 ghost use Rattle.std.specs.Prelude.{◌≡◌, ◌≤◌, true, length, pos};
 ghost use Rattle.channel.specs.Refusals.{refused_by};
+ghost use Rattle.prefix.specs.Prefix.{items};
 ghost use Rattle.table.specs.Entries.{each_in_range, blank_entries};
 ghost use Rattle.table.specs.Rule.{allowed_size, load_refusal};
 ghost use Rattle.table.specs.Held.{memory_of, entries_of, noise_of, Stands};
@@ -91,7 +92,7 @@ fn size_allowed(memory: i32, count: usize) -> bool
 // The entries, which are not too many.
 fn held(entries: &[Entry]) -> Prefix<Entry, 256>
     requires { length entries.now ≤ 256 }
-    ensures { result.items ≡ entries.now }
+    ensures { items result ≡ entries.now }
 {
     Prefix::of(entries, Entry::Barred)
 }

@@ -2,11 +2,12 @@
 use Rattle.std.specs.Prelude.{◌≡◌, ℕ, List, ℤ, pos, Ok, Err, Result}
 use Rattle.channel.specs.declared.refusal.Refusal.{Refusal}
 use Rattle.channel.specs.Meaning.{Meaning}
+use Rattle.prefix.specs.Prefix.{items}
 use Rattle.taps.specs.Rule.{taps_meaning}
 use Rattle.taps.specs.declared.Taps.{Taps}
 
 abbrev pub taps_of : Taps → List ℤ
-taps_of c = c.taps.items
+taps_of c = items c.taps
 
 abbrev pub noise_of : Taps → ℕ
 noise_of c = c.noise.number

@@ -2,6 +2,7 @@
 #![tactic(auto)]
 
 ghost use Rattle.std.specs.Prelude.{◌≡◌, ◌≤◌, true, length};
+ghost use Rattle.prefix.specs.Prefix.{items};
 ghost use Rattle.taps.specs.Rule.{each_in_range};
 
 use channel::Noise;
@@ -15,7 +16,7 @@ mod price;
 pub struct Taps {
     taps: Prefix<i16, 8>,
     noise: Noise,
-    ghost some: { 1 ≤ length taps.items },
-    ghost few: { length taps.items ≤ 8 },
-    ghost ranged: { each_in_range taps.items ≡ true },
+    ghost some: { 1 ≤ length (items taps) },
+    ghost few: { length (items taps) ≤ 8 },
+    ghost ranged: { each_in_range (items taps) ≡ true },
 }

@@ -1,6 +1,7 @@
 //! Making and loading taps.
 ghost use Rattle.std.specs.Prelude.{◌≡◌, ◌≤◌, [], ◌∷◌, length, pos};
 ghost use Rattle.channel.specs.Refusals.{refused_by};
+ghost use Rattle.prefix.specs.Prefix.{items};
 ghost use Rattle.taps.specs.Rule.{tap_in_range, each_in_range, load_refusal};
 ghost use Rattle.taps.specs.Held.{taps_of, noise_of, Stands};
 
@@ -64,7 +65,7 @@ impl Taps {
 // The taps, which are not too many.
 fn held(taps: &[i16]) -> Prefix<i16, 8>
     requires { length taps.now ≤ 8 }
-    ensures { result.items ≡ taps.now }
+    ensures { items result ≡ taps.now }
 {
     Prefix::of(taps, 0)
 }

@@ -1,5 +1,5 @@
 //! A text in the making.
-ghost use Rattle.std.specs.Prelude.{◌≡◌, List, ℕ, [], ◌++◌, length};
+ghost use Rattle.std.specs.Prelude.{◌≡◌, [], ◌++◌, length};
 ghost use Rattle.writing.specs.Drafts.{Room, Stands};
 
 use crate::short::TooShort;
@@ -13,9 +13,12 @@ pub struct Draft {
 }
 
 impl Model for Draft {
+    ghost use Rattle.std.specs.Prelude.{ℕ, List};
+    ghost use Rattle.prefix.specs.Prefix.{items};
+
     ghost Value = { List ℕ };
 
-    ghost view = { λ d. d.text.items };
+    ghost view = { λ d. items d.text };
 }
 
 impl Draft {

@@ -2,6 +2,7 @@ use Rattle.std.proofs.Common.{◌≡◌, ◌<◌, length, get_or, sym, ◌∙◌
 use Rattle.std.proofs.lemmas.Slice.Eq.{slice_eq-Decides}
 use Rattle.std.proofs.lemmas.Result.{err_from_is_err_and}
 use Rattle.std.proofs.lemmas.Bool.Decides.{not_from_Decides, Decides-eqb, nat_tests}
+use Rattle.prefix.specs.Prefix.{items}
 use Rattle.forms.proofs.Lists.{got_none, got_more, no_next, no_end_here, all_read, shorter}
 use Rattle.forms.specs.Words.{split_first, no_first}
 use Rattle.forms.proofs.list.read_list.Goals as goal
@@ -26,7 +27,7 @@ loop-rest-preserved g c =
 
 pub returns-then-eq : goal.returns-then-eq
 returns-then-eq g c =
-    let some : 0 < length c.loop-rest.pieces.items = grind (arith, nat_tests) in
+    let some : 0 < length (items c.loop-rest.pieces) = grind (arith, nat_tests) in
     all_read g.P.Piece.written g.P.Piece.lawful g.row.N _ _ _ c.loop-rest.invariant some ((slice_eq-Decides Decides-eqb _ _ _ c.eq.ensures).0 c.if-eq.true ∙ c.as_slice-then-not-is_empty.ensures)
 
 pub returns-else-not-is_empty : goal.returns-else-not-is_empty

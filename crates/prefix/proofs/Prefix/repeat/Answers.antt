@@ -1,4 +1,4 @@
-use Rattle.std.proofs.Common.{◌∙◌, ap, replicate, take}
+use Rattle.std.proofs.Common.{replicate, take, ap, ◌∙◌}
 use Rattle.std.proofs.lemmas.List.{take-replicate}
 use native.Mathlib.Nat.{min-le_right}
 use Rattle.prefix.proofs.Prefix.repeat.Goals as goal
