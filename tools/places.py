@@ -37,8 +37,8 @@ def functions(name):
         if not head:
             continue
         end = at
-        while end < len(lines) and lines[end] != head[1] + "}" and not (end == at and line.endswith("}")) and not lines[end].endswith(";\n"):
-            if end > at and re.match(r"\s*(pub(\(crate\))? )?fn \w+", lines[end]):
+        while end < len(lines) and lines[end] != head[1] + "}" and not (end == at and line.endswith("}")):
+            if lines[end].endswith("};") or lines[end].endswith(");") and end == at:
                 break
             end += 1
         span = lines[at : end + 1]
