@@ -1,6 +1,6 @@
 -- What a line says, and what that does.
-use Rattle.std.proofs.Common.{◌≡◌, ℕ, List, [], ℤ, Some, None, Ok, Err, Result, sym, refl, ap, ◌∙◌, subst, inr, arith, MatchResult}
-use Rattle.forms.specs.Forms.{Form, taps_form, table_form, code_form, depth_form, place_form, text_of, Lawful}
+use Rattle.std.proofs.Common.{◌≡◌, ℕ, cond, List, [], ℤ, Some, None, Ok, Err, Result, sym, refl, ap, ◌∙◌, subst, inr, arith, MatchResult}
+use Rattle.forms.specs.Forms.{Form, taps_form, table_form, code_form, depth_form, place_form, head_of, text_of, Lawful}
 use Rattle.forms.specs.Lines.{said, held, priors_in, IsForm}
 use Rattle.forms.specs.declared.line.Line.{Line}
 use Rattle.forms.specs.declared.line.Line.TheVariants.{Taps, Table, Code, Depth, Place}
@@ -12,11 +12,12 @@ use Rattle.receiver.specs.Bursts.{places_of}
 use Rattle.receiver.specs.Standing.{depth_refusal}
 use Rattle.receiver.specs.declared.receiver.Receiver.{Receiver}
 use Rattle.text.specs.declared.fault.Cause.{Cause}
-use Rattle.text.specs.declared.fault.Layer.TheVariants.{Receiver as ByReceiver}
-use Rattle.kinds.specs.Rules.{Rule, told_by, line_refusal}
+use Rattle.text.specs.declared.fault.Layer.TheVariants.{Text as ByText, Receiver as ByReceiver}
+use Rattle.kinds.specs.Rules.{Rule, Told, told_by, line_refusal, is_kind}
+use Rattle.text.specs.Kinds.{kind_of}
 use Rattle.reading.specs.Lines.{Does, ReadsChannel}
 use Rattle.reading.specs.Received.{state_of, Received}
-use Rattle.reading.specs.Steps.{Blame, State, bare, tuned, deep, ready, unless, received, tried, depth_of, Saying, a_channel, a_place, saying, first, after_channel, after_depth, after_heads, step}
+use Rattle.reading.specs.Steps.{Blame, State, bare, tuned, deep, ready, unless, received, tried, repeated, depth_of, Saying, a_channel, a_place, saying, first, after_channel, after_depth, after_heads, step}
 
 -- a line does what it says
 abbrev pub step_by : Rule → ℕ → State → Saying → Result State Blame
@@ -76,6 +77,21 @@ pub says_channel :
     (text : List ℕ) (line : Line) (i : IsForm text line) → ((z : ℤ) → line ≡ Depth z → ⊥) → ((p : PlaceLine) → line ≡ Place p → ⊥)
     → saying i.form ≡ a_channel i.form
 says_channel text line i no-depth no_place = channel_said line i.form i.says no-depth no_place
+
+-- a channel line where one stands
+pub repeated_is :
+    (k : Rule) (n : ℕ) (line : Line) (f : Form) (told : Told) → said line ≡ held f → told ≡ (ByText, cond (is_kind k.kind (kind_of (head_of (said line)))) 13 12)
+    → repeated k n f ≡ Err (record { line = n; told = told })
+repeated_is k n line f told e is =
+    let same : head_of (said line) ≡ head_of f = ap head_of e ∙ held_head f in
+    ap (λ t. Err (record { line = n; told = t })) (sym (is ∙ ap (λ h. (ByText, cond (is_kind k.kind (kind_of h)) 13 12)) same))
+  where
+    held_head : (f : Form) → head_of (held f) ≡ head_of f
+    held_head (taps_form n ts) = refl
+    held_head (table_form n m es) = refl
+    held_head (code_form m x y) = refl
+    held_head (depth_form d) = refl
+    held_head (place_form x y ps) = refl
 
 -- both heads
 pub tried_taken :

@@ -12,7 +12,7 @@ use table::Table;
 use taps::Taps;
 
 /// What can be written as a line: a channel, a depth or a place.
-pub trait Line {
+pub(crate) trait Line {
     ghost form: { Self → Forms };
 
     ghost most: { ℕ };
