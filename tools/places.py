@@ -56,11 +56,16 @@ def shape(tokens):
     return " ".join(t if t in words or not re.match(r"\w", t) else names.setdefault(t, f"x{len(names)}") for t in tokens)
 
 
-def point1():
+def lines_with(pattern):
+    """The lines of code in which a pattern is found."""
     for name in files("crates/*/src/**/*.rt"):
         for at, line in enumerate(code_of(name), 1):
-            if re.search(r"\benum \w+", line) or re.search(r": bool,$", line) or re.search(r"\bu32::MAX\b|\bconst BARRED\b", line):
+            if re.search(pattern, line):
                 yield f"{name}:{at}: {line}"
+
+
+def point1():
+    return lines_with(r"\benum \w+|: bool,$|\bu32::MAX\b|\bconst BARRED\b")
 
 
 def point2():
@@ -75,17 +80,14 @@ def point2():
 
 
 def point3():
-    for name in files("crates/*/src/**/*.rt"):
-        for at, line in enumerate(code_of(name), 1):
-            if re.match(r"while ", line) or re.match(r"for .* in .*(\.\.|enumerate)", line):
-                yield f"{name}:{at}: {line}"
+    return lines_with(r"^while |^for .* in .*(\.\.|enumerate)")
 
 
 def point4():
-    for name in files("crates/*/src/**/*.rt"):
-        for at, line in enumerate(code_of(name), 1):
-            if re.search(r"\bas (u8|u16|u32|u64|i16|i32|i64|usize)\b", line) or re.search(r"fn (same|of|as|from|to)_\w+", line) or re.search(r"Err\(\w+\) => return Err|Err\(\w+\) => Err\(|Ok\(\w+\) => Ok\(", line):
-                yield f"{name}:{at}: {line}"
+    casts = r"\bas (u8|u16|u32|u64|i16|i32|i64|usize)\b"
+    named = r"fn (same|of|as|from|to)_\w+"
+    handed_on = r"Err\(\w+\) => return Err|Err\(\w+\) => Err\(|Ok\(\w+\) => Ok\("
+    return lines_with(f"{casts}|{named}|{handed_on}")
 
 
 def point5():
@@ -113,10 +115,7 @@ def point5():
 
 
 def point6():
-    for name in files("crates/*/src/**/*.rt"):
-        for at, line in enumerate(code_of(name), 1):
-            if re.match(r"(pub(\(crate\))? )?\w+: \[.*; .*\],$", line):
-                yield f"{name}:{at}: {line}"
+    return lines_with(r"^(pub(\(crate\))? )?\w+: \[.*; .*\],$")
 
 
 def point7():
