@@ -1,11 +1,12 @@
 -- What is printed of a burst, and of a place of it.
 use Rattle.std.specs.Prelude.{ℕ, List, ◌++◌, codes, decimal, Some, None, Option}
-use Rattle.std.specs.List.{join_by}
-use Rattle.cost.specs.declared.Cost.{Cost}
-use Rattle.cost.specs.declared.lean.Lean.{Lean}
 use Rattle.cost.specs.Leans.{lean_text}
 use Rattle.cost.specs.Shown.{cost_text}
 use Rattle.report.specs.declared.burst.Burst.{Burst}
+use Rattle.report.specs.declared.read.Costs.{Costs}
+use Rattle.report.specs.declared.read.Costs.TheVariants.{Two as TwoCosts, Four as FourCosts}
+use Rattle.report.specs.declared.read.Leans.{Leans}
+use Rattle.report.specs.declared.read.Leans.TheVariants.{Two as TwoLeans, Four as FourLeans}
 use Rattle.report.specs.declared.read.Read.{Read}
 
 -- the best in eighths, or none
@@ -17,15 +18,17 @@ abbrev pub burst_text : Burst → List ℕ
 burst_text b =
     codes "(burst (places " ++ (decimal b.places ++ (codes ") " ++ (best_text b.best ++ (codes " (columns " ++ (decimal b.columns ++ codes "))")))))
 
--- the costs of the values from 0 on, with a space between each and the next
-abbrev pub costs_text : List Cost → List ℕ
-costs_text costs = join_by cost_text (codes " ") costs
+-- the costs of two or four values
+abbrev pub costs_text : Costs → List ℕ
+costs_text (TwoCosts a b) = cost_text a ++ (codes " " ++ cost_text b)
+costs_text (FourCosts a b c d) = cost_text a ++ (codes " " ++ (cost_text b ++ (codes " " ++ (cost_text c ++ (codes " " ++ cost_text d)))))
 
--- the leans of the values from 1 on, likewise
-abbrev pub leans_text : List Lean → List ℕ
-leans_text leans = join_by lean_text (codes " ") leans
+-- the leans of all but the first of them
+abbrev pub leans_text : Leans → List ℕ
+leans_text (TwoLeans a) = lean_text a
+leans_text (FourLeans a b c) = lean_text a ++ (codes " " ++ (lean_text b ++ (codes " " ++ lean_text c)))
 
 abbrev pub text_read : Read → List ℕ
 text_read r =
-    codes "(read (at " ++ (decimal r.at ++ (codes ") (shown " ++ (decimal r.shown ++ (codes ") (costs " ++ (costs_text r.costs.now
-    ++ (codes ") (lean " ++ (leans_text r.leans.now ++ codes "))")))))))
+    codes "(read (at " ++ (decimal r.at ++ (codes ") (shown " ++ (decimal r.shown ++ (codes ") (costs " ++ (costs_text r.costs
+    ++ (codes ") (lean " ++ (leans_text r.leans ++ codes "))")))))))

@@ -12,9 +12,9 @@ pub struct Burst {
     pub columns: usize,
 }
 
-// Prints the best of a burst.
+/// Prints the best of a burst, in eighths, or that it has none.
 #[derive(Clone, Copy)]
-struct Best(Option<u32>);
+pub struct Best(pub Option<u32>);
 
 impl fmt::Display for Best {
     ghost output = { λ b. Some (best_text b.0) };

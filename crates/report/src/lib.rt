@@ -5,5 +5,5 @@ mod burst;
 mod read;
 mod spaced;
 
-pub use burst::Burst;
-pub use read::Read;
+pub use burst::{Best, Burst};
+pub use read::{Costs, Leans, Read};

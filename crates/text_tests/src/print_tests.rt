@@ -1,6 +1,6 @@
 //! What is printed, and what is written.
 use cost::{Cost, Lean};
-use report::{Burst, Read};
+use report::{Burst, Costs, Leans, Read};
 use std::test::Fail;
 use text::{Cause, Fault};
 use writing::{DepthLine, TooShort, write_line};
@@ -41,8 +41,8 @@ fn bursts_and_places_are_printed(rt: HostRuntime) -> Result<(), Fail> {
     let read = Read {
         at: 0,
         shown: 1,
-        costs: &[Cost::Eighths(10), Cost::Eighths(7)],
-        leans: &[Lean::Eighths(3)],
+        costs: Costs::Two(Cost::Eighths(10), Cost::Eighths(7)),
+        leans: Leans::Two(Lean::Eighths(3)),
     };
     assert_eq!(rt;
         read.to_string(rt.alloc())?.as_str(),

@@ -5,7 +5,7 @@ use anyhow::anyhow;
 use burst::{Place, Priors, Refusal};
 use channel::{Channel, Sample};
 use receiver::Receiver;
-use report::{Burst, Read};
+use report::{Burst, Costs, Leans, Read};
 use taps::Taps;
 
 // What a call answers; a refusal ends the program.
@@ -24,21 +24,16 @@ fn place(zero: u16, one: u16) -> Place {
     }
 }
 
-// Prints what is read of a place.
-fn tell_place(rt: &HostRuntime, receiver: &Receiver<Taps>, at: usize) -> anyhow::Result<()> {
-    let costs = [
-        answered(receiver.cost(at, 0))?,
-        answered(receiver.cost(at, 1))?,
-    ];
-    let leans = [answered(receiver.lean(at, 1))?];
-    let read = Read {
+// What is printed of a place.
+fn read(receiver: &Receiver<Taps>, at: usize) -> anyhow::Result<Read> {
+    let zero = answered(receiver.cost(at, 0))?;
+    let one = answered(receiver.cost(at, 1))?;
+    Ok(Read {
         at,
         shown: answered(receiver.symbol(at))?,
-        costs: &costs,
-        leans: &leans,
-    };
-    println!(rt; "{read}")?;
-    Ok(())
+        costs: Costs::Two(zero, one),
+        leans: Leans::Two(answered(receiver.lean(at, 1))?),
+    })
 }
 
 // Settles the burst and prints it.
@@ -52,7 +47,8 @@ fn tell(rt: &HostRuntime, receiver: &mut Receiver<Taps>) -> anyhow::Result<()> {
     };
     println!(rt; "{burst}")?;
     for at in 0..places {
-        tell_place(rt, receiver, at)?;
+        let line = read(receiver, at)?;
+        println!(rt; "{line}")?;
     }
     Ok(())
 }
