@@ -93,6 +93,11 @@ impl Channel for Code {
         self.memory
     }
 
+    // A shift in place of a power: it is asked with every price.
+    fn windows(&self) -> usize {
+        1 << self.memory
+    }
+
     fn takes(&self, sample: Sample) -> bool {
         sample.in_range()
     }

@@ -1,5 +1,5 @@
 //! Making a prefix, reading it, and putting elements past what it holds.
-ghost use Rattle.std.specs.Prelude.{◌≡◌, ⊤, [], ◌∷◌, ◌++◌, min, take, replicate};
+ghost use Rattle.std.specs.Prelude.{◌≡◌, ⊤, [], ◌∷◌, ◌++◌, length, min, take, replicate};
 ghost use Rattle.prefix.specs.Prefix.{items};
 
 use crate::Prefix;
@@ -41,6 +41,23 @@ impl<T: Copy, const N: usize> Prefix<T, N> {
         ensures { result.now ≡ items self.now }
     {
         &self.cells[..self.len]
+    }
+
+    /// All cells: the elements, and past them whatever the room that is left holds.
+    // No code asks for them: must-fail edits plant them where a getter is to tell the elements alone.
+    pub fn cells(&self) -> &[T]
+        ensures long { length result.now ≡ N }
+        ensures front { take (length (items self.now)) result.now ≡ items self.now }
+    {
+        &self.cells[..]
+    }
+
+    /// Holds the first elements of a slice, in place of those that it held.
+    pub fn assign(&mut self, elements: &[T])
+        ensures { items self.new ≡ take N elements.now }
+    {
+        self.len = 0;
+        self.extend_from_slice(elements);
     }
 
     /// Appends an element, if there is room.

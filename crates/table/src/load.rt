@@ -1,7 +1,6 @@
 //! Making and loading a table.
-ghost use Rattle.std.specs.Prelude.{◌≡◌, ◌≤◌, true, length, pos};
+ghost use Rattle.std.specs.Prelude.{◌≡◌, true, length, pos};
 ghost use Rattle.channel.specs.Refusals.{refused_by};
-ghost use Rattle.prefix.specs.Prefix.{items};
 ghost use Rattle.table.specs.Entries.{each_in_range, blank_entries};
 ghost use Rattle.table.specs.Rule.{allowed_size, load_refusal};
 ghost use Rattle.table.specs.Held.{memory_of, entries_of, noise_of, Stands};
@@ -71,11 +70,9 @@ impl Table {
         ensures entries { entries_of self.new ≡ entries.now }
         ensures noise { noise_of self.new ≡ noise.number }
     {
-        *self = Table {
-            memory: memory.unsigned_abs() as usize,
-            entries: held(entries),
-            noise,
-        };
+        self.memory = memory.unsigned_abs() as usize;
+        self.entries.assign(entries);
+        self.noise = noise;
     }
 }
 
@@ -87,14 +84,6 @@ fn size_allowed(memory: i32, count: usize) -> bool
         return false;
     }
     count == 4usize.pow(memory.unsigned_abs())
-}
-
-// The entries, which are not too many.
-fn held(entries: &[Entry]) -> Prefix<Entry, 256>
-    requires { length entries.now ≤ 256 }
-    ensures { items result ≡ entries.now }
-{
-    Prefix::of(entries, Entry::Barred)
 }
 
 // Whether each entry is in its range.
