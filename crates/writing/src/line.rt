@@ -1,15 +1,10 @@
 //! Writing one line.
 ghost use Rattle.std.specs.Prelude.{◌≡◌, ℕ, ◌+◌, ◌≤◌, ◌++◌, length};
-ghost use Rattle.std.proofs.Common.{refl};
 ghost use Rattle.forms.specs.Forms.{Form as Forms, opening, head_of, body_of, text_of};
 ghost use Rattle.writing.specs.Drafts.{Room, Stands};
 
 use crate::draft::Draft;
 use crate::short::TooShort;
-use code::Code;
-use kinds::Spelled;
-use table::Table;
-use taps::Taps;
 
 /// What can be written as a line: a channel, a depth or a place.
 pub(crate) trait Line {
@@ -29,23 +24,6 @@ pub(crate) trait Line {
         ensures short { length (body_of (form self.now)) ≤ most };
 
     ghost short: { most ≤ 6740 };
-}
-
-/// A channel whose line can be written.
-pub trait Inscribed: Spelled + Line {
-    ghost inscribed: { (c : Self) → Self.Line.form c ≡ Self.Spelled.form c };
-}
-
-impl Inscribed for Taps {
-    ghost inscribed = { λ c. refl };
-}
-
-impl Inscribed for Table {
-    ghost inscribed = { λ c. refl };
-}
-
-impl Inscribed for Code {
-    ghost inscribed = { λ c. refl };
 }
 
 // The line after what a draft holds.
