@@ -21,14 +21,14 @@ returns g c =
     let made = c.new-one.ensures in
     let ran = simp made.channel at c.run.ensures in
     let stands : standing one.burst ≡ s = ran.ran ∙ ap (ends m c.args.calls.now) made.stands in
-    let long = places_held one.burst one.kept in
+    let long = places_held one.burst one.kept.sized.places one.kept.sized.few in
     let settle = simp ran.channel at c.settle-worked.ensures in
     let sound : Sound m settled-one.burst =
     subst (λ (x : g.row.C.Denot). Sound (g.C.Channel.meaning x) settled-one.burst) settle.channel settled-one.sound in
     let after = settled_stands m s one.burst settled-one.burst settled-one.burst stands long c.settle-worked.result settle.count settle.left settle.best in
     let new = c.renewed-two.ensures in
     let stands' : standing two.burst ≡ given m' (settled s) = new.stands ∙ ap (given m') after in
-    let long' = places_held two.burst two.kept in
+    let long' = places_held two.burst two.kept.sized.places two.kept.sized.few in
     let settle' = simp new.channel at c.settle-renewed.ensures in
     let hears = simp settle.channel at c.hear-heard.ensures.one in
     let hears' = simp settle'.channel at c.hear-heard.ensures.other in
@@ -48,7 +48,7 @@ returns g c =
       worked = goes;
       renewed = goes';
       alike = λ means same.
-          alike_by m m' means s settled-one.burst after sound (places_held settled-one.burst settled-one.kept) settled-one.kept.sized.few within further
+          alike_by m m' means s settled-one.burst after sound (places_held settled-one.burst settled-one.kept.sized.places settled-one.kept.sized.few) settled-one.kept.sized.few within further
           c.settle-worked.result c.settle-renewed.result said said' c.args.bytes.now c.args.other_bytes.now c.hear-heard.new.bytes
           c.hear-heard.new.other_bytes same goes goes';
       sequences = always_of_sequences m (g.met.C.Channel.lawful c.args.channel) (settled s) allowed;
