@@ -9,12 +9,12 @@ use prefix::Prefix;
 /// A number as text.
 #[derive(Clone, Copy)]
 pub struct Numeral {
-    text: Prefix<u8, 40>,
+    text: Prefix<u8, 20>,
 }
 
 // The text, which is not too long.
 fn held(text: &[u8]) -> Numeral
-    requires { length text.now ≤ 40 }
+    requires { length text.now ≤ 20 }
     ensures { text_of result ≡ text.now }
 {
     Numeral {
@@ -22,28 +22,28 @@ fn held(text: &[u8]) -> Numeral
     }
 }
 
-impl Numeral {
-    /// The text of a number of any type of integer.
-    pub fn of<I: Integer>(number: I) -> Numeral
-        ensures text { text_of result ≡ I.text number }
-        ensures short { length (text_of result) ≤ I.MAX_STR_LEN }
-    {
-        let mut buffer = Buffer::new();
-        held(buffer.format(number).as_bytes())
-    }
+// The text of a number of a type whose numbers have at most twenty bytes.
+fn written<I: Integer>(number: I) -> Numeral
+    requires { I.MAX_STR_LEN ≤ 20 }
+    ensures { text_of result ≡ I.text number }
+{
+    let mut buffer = Buffer::new();
+    held(buffer.format(number).as_bytes())
+}
 
+impl Numeral {
     /// The text of a number that is not below 0.
     pub fn of_u64(value: u64) -> Numeral
         ensures { text_of result ≡ decimal value }
     {
-        Numeral::of::<u64>(value)
+        written::<u64>(value)
     }
 
     /// The text of a number, with a minus before it if it is below 0.
     pub fn of_i32(value: i32) -> Numeral
         ensures { text_of result ≡ signed_decimal value }
     {
-        Numeral::of::<i32>(value)
+        written::<i32>(value)
     }
 
     /// The text.
